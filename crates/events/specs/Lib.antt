@@ -1,0 +1,4 @@
+pub mod Kinds
+pub mod Said
+pub mod Rules
+pub mod Held
