@@ -1,3 +1,4 @@
 pub mod Limits
 pub mod Held
 pub mod Keeps
+pub mod Ranges

@@ -1,0 +1,9 @@
+pub mod Spelled
+pub mod Shown
+pub mod Pages
+pub mod Fourteen
+pub mod Cuts
+pub mod Whole
+pub mod Bodies
+pub mod Readings
+pub mod Back
