@@ -1,0 +1,4 @@
+// An account of a run sheet: how many lines of each kind it holds, and its first and last time.
+
+pub mod tally;
+pub mod whole;
