@@ -74,14 +74,16 @@ impl Refusal {
         ensures { λ r. ⌜ r ≡ layer-of self ⌝ }
     {
         match self {
-            Refusal::ShortLine | Refusal::UnknownKind | Refusal::BadNumber | Refusal::BadText => Layer::Reader,
+            Refusal::ShortLine | Refusal::UnknownKind | Refusal::BadNumber | Refusal::BadText =>
+                Layer::Reader,
             Refusal::MissingTestStart
             | Refusal::MissingScriptStart
             | Refusal::MissingStressSubRunStart
             | Refusal::WrongBarState
             | Refusal::StartClash
             | Refusal::StillRunning => Layer::Step,
-            Refusal::BookFull | Refusal::NoPlace | Refusal::CountExhausted | Refusal::SinkFull => Layer::Storage,
+            Refusal::BookFull | Refusal::NoPlace | Refusal::CountExhausted | Refusal::SinkFull =>
+                Layer::Storage,
             Refusal::Unwritable => Layer::Writer,
         }
     }

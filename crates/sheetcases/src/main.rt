@@ -38,12 +38,24 @@ fn case_at(bytes: &[u8]) -> Option<Case<'_>> {
     }
     let sheet = &bytes[80..80 + length];
     let behind = &bytes[80 + length..bytes.len()];
-    Some(Case { wanted: Answer { line, column, number }, sheet, behind })
+    Some(Case {
+        wanted: Answer {
+            line,
+            column,
+            number,
+        },
+        sheet,
+        behind,
+    })
 }
 
 fn read_whole(sheet: &[u8]) -> Answer {
     match account(sheet) {
-        Ok(tally) => Answer { line: tally.lines, column: 0, number: 0 },
+        Ok(tally) => Answer {
+            line: tally.lines,
+            column: 0,
+            number: 0,
+        },
         Err(found) => Answer {
             line: found.line,
             column: found.fault.column() as u64,

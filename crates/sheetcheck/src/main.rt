@@ -52,7 +52,10 @@ fn print_fault(rt: &LibcRuntime, found: &SheetFault) -> Result<(), AnyError> {
     let column = found.fault.column();
     let number = found.fault.refusal().number();
     let words = sentence(found.fault);
-    println!(rt, "Line {line}, column {column}, refusal {number}: {words}.")?;
+    println!(
+        rt,
+        "Line {line}, column {column}, refusal {number}: {words}."
+    )?;
     Ok(())
 }
 

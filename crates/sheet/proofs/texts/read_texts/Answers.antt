@@ -32,9 +32,9 @@ returns-in-Some-cut-texts c =
     let cut = subst P (take-rest s 8) (c .in-Some-cut-texts .ensures tt) in
     record {
       stands = texts-from s x y a b
-        (at-width 4 (take 4 s) (pos a) (four s (omega (arith, c .pre))) (c .in-Some .ensures tt .0))
-        (at-width 4 (take 4 (drop 4 s)) (pos b) (four (drop 4 s) (omega (arith, c .pre, length-drop 4 s))) (c .in-Some-read-count .ensures tt .0))
-        cut;
+          (at-width 4 (take 4 s) (pos a) (four s (omega (arith, c .pre))) (c .in-Some .ensures tt .0))
+          (at-width 4 (take 4 (drop 4 s)) (pos b) (four (drop 4 s) (omega (arith, c .pre, length-drop 4 s))) (c .in-Some-read-count .ensures tt .0))
+          cut;
       a-short = omega (arith, cut .a-long, c .in-Some .ensures tt .1);
       b-short = omega (arith, cut .b-long, c .in-Some-read-count .ensures tt .1);
     }
@@ -47,6 +47,6 @@ returns-in-None c x y rest lx ly e =
     let p = at-width 4 (take 4 s) (pos a) (four s (omega (arith, c .pre))) (c .in-Some .ensures tt .0) in
     let q = at-width 4 (take 4 (drop 4 s)) (pos b) (four (drop 4 s) (omega (arith, c .pre, length-drop 4 s))) (c .in-Some-read-count .ensures tt .0) in
     c .in-None .ensures tt x y rest
-      (same-count (take 4 s) (length x) a lx (c .in-Some .ensures tt .1) (first-length s x y rest e lx) p)
-      (same-count (take 4 (drop 4 s)) (length y) b ly (c .in-Some-read-count .ensures tt .1) (second-length s x y rest e lx ly) q)
-      (take-rest s 8 ∙ texts-behind s x y rest e lx ly)
+    (same-count (take 4 s) (length x) a lx (c .in-Some .ensures tt .1) (first-length s x y rest e lx) p)
+    (same-count (take 4 (drop 4 s)) (length y) b ly (c .in-Some-read-count .ensures tt .1) (second-length s x y rest e lx ly) q)
+    (take-rest s 8 ∙ texts-behind s x y rest e lx ly)

@@ -5,15 +5,27 @@ use Rattle.events.proofs.kinds.Kind.limits.Needs as need
 
 pub returns-in-RunStarted : need.returns-in-RunStarted
 returns-in-RunStarted c =
-    elim (c .in-RunStarted .is) [ inl e ↦ ap limits (sym e) | inr o ↦
-    elim o [ inl e ↦ ap limits (sym e) | inr o ↦
-    elim o [ inl e ↦ ap limits (sym e) | inr o ↦
-    elim o [ inl e ↦ ap limits (sym e) | inr e ↦ ap limits (sym e) ] ] ] ]
+    elim (c .in-RunStarted .is) [
+      | inl e ↦ ap limits (sym e)
+      | inr o ↦
+          elim o [
+            | inl e ↦ ap limits (sym e)
+            | inr o ↦
+                elim o [
+                  | inl e ↦ ap limits (sym e)
+                  | inr o ↦
+                      elim o [ inl e ↦ ap limits (sym e) | inr e ↦ ap limits (sym e) ]
+                ]
+          ]
+    ]
 
 pub returns-in-RunBeginCancel : need.returns-in-RunBeginCancel
 returns-in-RunBeginCancel c =
-    elim (c .in-RunBeginCancel .is) [ inl e ↦ ap limits (sym e) | inr o ↦
-    elim o [ inl e ↦ ap limits (sym e) | inr e ↦ ap limits (sym e) ] ]
+    elim (c .in-RunBeginCancel .is) [
+      | inl e ↦ ap limits (sym e)
+      | inr o ↦
+          elim o [ inl e ↦ ap limits (sym e) | inr e ↦ ap limits (sym e) ]
+    ]
 
 pub returns-in-TestStarted : need.returns-in-TestStarted
 returns-in-TestStarted c = ap limits (sym (c .in-TestStarted .is))
