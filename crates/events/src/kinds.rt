@@ -29,9 +29,7 @@ pub const COUNTS: usize = 13;
 const COUNT: u32 = 4294967295;
 // The highest slot or index.
 const PLACE: u32 = 65535;
-
 const NANOSECONDS: u32 = 999999999;
-
 const FLAG: u32 = 1;
 
 impl Kind {
@@ -51,55 +49,13 @@ impl Kind {
             Kind::TestStarted => [COUNT, 0, PLACE, 0, 0, 0, 0, 0, 0, 0, 0, 0, 0],
             Kind::TestRetryStarted => [COUNT, 0, PLACE, COUNT, COUNT, 0, 0, 0, 0, 0, 0, 0, 0],
             Kind::TestAttemptFailedWillRetry => {
-                [
-                    COUNT,
-                    0,
-                    0,
-                    COUNT,
-                    COUNT,
-                    COUNT,
-                    NANOSECONDS,
-                    FLAG,
-                    0,
-                    0,
-                    0,
-                    0,
-                    0,
-                ]
+                [COUNT, 0, 0, COUNT, COUNT, COUNT, NANOSECONDS, FLAG, 0, 0, 0, 0, 0]
             }
             Kind::TestFinished => {
-                [
-                    COUNT,
-                    0,
-                    0,
-                    COUNT,
-                    COUNT,
-                    COUNT,
-                    NANOSECONDS,
-                    FLAG,
-                    COUNT,
-                    COUNT,
-                    COUNT,
-                    COUNT,
-                    COUNT,
-                ]
+                [COUNT, 0, 0, COUNT, COUNT, COUNT, NANOSECONDS, FLAG, COUNT, COUNT, COUNT, COUNT, COUNT]
             }
             Kind::SetupScriptStarted => [0, 0, PLACE, 0, 0, 0, 0, 0, 0, 0, 0, 0, 0],
-            Kind::SetupScriptFinished => [
-                0,
-                0,
-                PLACE,
-                0,
-                0,
-                COUNT,
-                NANOSECONDS,
-                FLAG,
-                0,
-                0,
-                0,
-                0,
-                0,
-            ],
+            Kind::SetupScriptFinished => [0, 0, PLACE, 0, 0, COUNT, NANOSECONDS, FLAG, 0, 0, 0, 0, 0],
             Kind::TestSlow => [0, 0, 0, COUNT, 0, COUNT, NANOSECONDS, FLAG, 0, 0, 0, 0, 0],
             Kind::SetupScriptSlow => [0, 0, 0, 0, 0, COUNT, NANOSECONDS, FLAG, 0, 0, 0, 0, 0],
         }
