@@ -1,0 +1,5 @@
+pub mod Numbers
+pub mod Parts
+pub mod Shelves
+pub mod Books
+pub mod Laws

@@ -1,0 +1,5 @@
+pub mod Texts
+pub mod Shelf
+pub mod Kept
+pub mod Book
+pub mod Laws

@@ -1,0 +1,4 @@
+pub mod Count
+pub mod Held
+pub mod Order
+pub mod Law

@@ -1,0 +1,9 @@
+pub mod Equal
+pub mod Phases
+pub mod Categories
+pub mod Words
+pub mod Labels
+pub mod Patterns
+pub mod Arguments
+pub mod Events
+pub mod Codes
