@@ -1,0 +1,2 @@
+pub mod Json
+pub mod Laws
