@@ -31,5 +31,5 @@ display-shown book n p e = ap (part-text book) e ∙ sym (List·getD-map (part-t
 -- a number of more than 32 bits has no text
 pub unknown : (book : NameBook) (n : ℕ) → 2 ^ 32 ≤ n → None ≡ book-text book n
 unknown book n big =
-    let m = names-stand .books .most book in
+    let m = names-stand .books .bounded book in
     ap shown (sym (names-stand .numbers .unread (texts book) n (λ _. omega (arith, m))))
