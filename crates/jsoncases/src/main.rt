@@ -130,6 +130,10 @@ fn book_number(n: usize) -> Option<u32> {
     if n == 0 || n > 65535 { None } else { Some(n as u32) }
 }
 
+fn same_bytes(a: &[u8], b: &[u8]) -> bool {
+    a == b
+}
+
 // Whether every byte is the one that the output was filled with.
 fn untouched(bytes: &[u8]) -> bool {
     for b in bytes {
@@ -165,14 +169,20 @@ fn read_header(cursor: &mut Cursor) -> Option<Header> {
 }
 
 // Whether the writer answers as it is wanted.
-fn written_well(finished: &Finished, sink: &RecordList, book: &NameBook, h: Header, wanted: &[u8]) -> bool {
-    let mut out = [170u8; 16384];
-    if h.size > 16384 {
+fn written_well(out: &mut [u8], finished: &Finished, sink: &RecordList, book: &NameBook, h: Header, wanted: &[u8]) -> bool {
+    let size = h.size;
+    let number = h.number;
+    if size > out.len() {
         return false;
     }
-    match write_json(&mut out[0..h.size], finished, sink, book) {
-        Ok(n) => h.number == 0 && n == h.size && &out[0..n] == wanted && untouched(&out[n..16384]),
-        Err(refusal) => refusal.number() as usize == h.number && untouched(&out),
+    let answer = write_json(&mut out[0..size], finished, sink, book);
+    if size > out.len() {
+        return false;
+    }
+    let (written, behind) = out.split_at(size);
+    match answer {
+        Ok(n) => number == 0 && n == size && same_bytes(written, wanted) && untouched(behind),
+        Err(refusal) => refusal.number() as usize == number && untouched(written) && untouched(behind),
     }
 }
 
@@ -195,7 +205,8 @@ fn case_holds(cursor: &mut Cursor) -> Option<bool> {
     let mut holds = None;
     if h.texts > 0 && enter_texts(cursor, &mut book, h.texts - 1) && append_lines(cursor, &mut sink, h.events) {
         if let Some(wanted) = cursor.part(h.length) {
-            holds = Some(written_well(&finished, &sink, &book, h, wanted));
+            let mut out = [170u8; 16384];
+            holds = Some(written_well(&mut out, &finished, &sink, &book, h, wanted));
         }
     }
     let (_version, _run_id, _profile_name) = finished.close();
