@@ -1,4 +1,5 @@
 // Examples of number columns, run.
+#![tactic(auto)]
 
 #[cfg(test)]
 mod tests {

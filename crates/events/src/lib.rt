@@ -1,4 +1,5 @@
 // The sixteen events of a test run, and the rules that each keeps.
+#![tactic(auto)]
 
 pub mod event;
 pub mod kinds;

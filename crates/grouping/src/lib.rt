@@ -1,4 +1,5 @@
 // Which process a test's lanes stand in: by a trait, for every way of grouping.
+#![tactic(auto)]
 
 ghost use Rattle.std.specs.Prelude.{◌≡◌, ℕ, ◌≤◌, true, List, is_some, Some, None, Option, MatchResult};
 ghost use Rattle.refusal.specs.Numbers.{number_of};

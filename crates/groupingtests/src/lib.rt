@@ -1,4 +1,5 @@
 // The two groupings at their limits.
+#![tactic(auto)]
 
 use grouping::Grouping;
 

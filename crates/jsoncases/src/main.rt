@@ -1,13 +1,14 @@
 // Holds the JSON writer against texts that were made without it.
+#![tactic(auto)]
 
 use anyhow::anyhow;
 use columns::{read_signed, read_unsigned};
-use json::write_json;
 use names::{Entry, NameBook};
 use sinks::{RecordList, Sink};
 use states::{Finished, Recording};
 use std::fs;
 use trace::TraceEvent;
+use trace_json::write_json;
 
 const LINE: usize = 322;
 

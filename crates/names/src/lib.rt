@@ -1,4 +1,5 @@
 // The name book: texts get numbers from 1 by arrival, and equal texts share one.
+#![tactic(auto)]
 
 ghost use Rattle.names.specs.Laws.{NamesStand};
 

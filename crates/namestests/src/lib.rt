@@ -1,4 +1,5 @@
 // The name book on examples: nothing to write on, one entry, exactly full, one more, and many.
+#![tactic(auto)]
 
 ghost use Rattle.std.specs.Prelude.{◌≡◌, MatchResult};
 ghost use Rattle.names.specs.Book.{shelf_of};

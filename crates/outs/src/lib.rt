@@ -1,4 +1,5 @@
 // Where a text goes: one end counts it, one writes it. What cannot be shown has no text.
+#![tactic(auto)]
 
 ghost use Rattle.std.specs.Prelude.{◌≡◌, ◌+◌, ◌≤◌, [], ◌++◌, length, take, drop, Some, None, decimal, unsigned_abs, refl};
 ghost use Rattle.std.proofs.Common.{◌∙◌};

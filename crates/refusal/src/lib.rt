@@ -1,4 +1,5 @@
 // Every refusal of the product, with its number and its layer.
+#![tactic(auto)]
 
 ghost use Rattle.std.specs.Prelude.{◌≡◌};
 ghost use Rattle.refusal.specs.Numbers.{number_of, layer_of, layer_number};

@@ -1,4 +1,5 @@
 // The six kinds of row that a run's tables hold: what each is told apart by, and its rank.
+#![tactic(auto)]
 
 mod known_binary;
 mod named_lane;

@@ -1,4 +1,5 @@
 // The arguments of an event, as the member args.
+#![tactic(auto)]
 
 ghost use Rattle.std.specs.Prelude.{◌≡◌};
 ghost use Rattle.words.specs.Words.{book_text};

@@ -1,4 +1,5 @@
 // A run sheet read from its first line to its last, one event a call.
+#![tactic(auto)]
 
 pub mod faults;
 mod lines;

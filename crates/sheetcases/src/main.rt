@@ -1,4 +1,5 @@
 // Holds the reader against run sheets, sound and damaged, whose answers were worked out without it.
+#![tactic(auto)]
 
 use account::whole::account;
 use anyhow::anyhow;

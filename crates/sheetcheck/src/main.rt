@@ -1,4 +1,5 @@
 // Reads a run sheet on standard input, and prints an account of it or its first fault.
+#![tactic(auto)]
 
 use account::sentences::sentence;
 use account::tally::{KINDS, Tally};

@@ -1,4 +1,5 @@
 // Reads one line of each kind, and holds every field of its event against what the line was made to say.
+#![tactic(auto)]
 
 use events::event::{Event, EventKind, RetryData, RunStats, TestInstanceId, TimeTaken};
 use sheet::reader::SheetReader;

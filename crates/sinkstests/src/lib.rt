@@ -1,4 +1,5 @@
 // Sinks run at their edges: no place, exactly full, a byte too few, the widest numbers, more than one line.
+#![tactic(auto)]
 
 #[cfg(test)]
 mod tests {

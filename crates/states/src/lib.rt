@@ -1,4 +1,5 @@
 // The two states of a converter, as values that move: it records, and then it is finished.
+#![tactic(auto)]
 
 ghost use Rattle.std.specs.Prelude.{◌≡◌, MatchResult};
 ghost use Rattle.names.specs.Book.{shelf_of};

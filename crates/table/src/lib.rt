@@ -1,4 +1,5 @@
 // A table of rows over lent memory, with at most one row of each key, written once for every kind of row.
+#![tactic(auto)]
 
 ghost use Rattle.std.specs.Prelude.{◌≡◌, ℕ, ◌+◌, ◌≤◌, min, Bool, true, false, not, [], length, take, is_some, is_ok, MatchResult};
 ghost use Rattle.table.specs.Count.{cnt, has, cut, put, pick};

@@ -1,4 +1,5 @@
 // Tables run at their edges: no place, one, exactly full, one more, and more than a table holds.
+#![tactic(auto)]
 
 #[cfg(test)]
 mod tests {

@@ -1,4 +1,5 @@
 // What codes, labels, displays and book numbers are shown as.
+#![tactic(auto)]
 
 ghost use Rattle.std.specs.Prelude.{◌≡◌, ℕ};
 ghost use Rattle.names.specs.Book.{texts, shown_of};
