@@ -1,10 +1,10 @@
 -- What users of a table need: what it answers after a move, how many rows it has then, their order, and that a key
 -- stays in it at most once.
-use Rattle.std.proofs.Common.{◌≡◌, ℕ, ◌+◌, ◌<◌, ◌≤◌, Bool, true, false, cond, List, [], ◌∷◌, length, sym, refl, ap, ◌∙◌, inl, inr, arith}
+use Rattle.std.proofs.Common.{◌≡◌, ℕ, ◌+◌, Bool, true, false, List, [], length, ◌∙◌, inl, inr, arith}
 use mathlib.Core.HLevel.{Π_prop}
 use native.Mathlib.Bridge.{le_prop}
 use Rattle.std.proofs.lemmas.Bool.{cases_Bool}
-use Rattle.table.specs.Count.{bit, cnt, cut, put, pick}
+use Rattle.table.specs.Count.{cnt, cut, pick}
 use Rattle.table.specs.Held.{of, Single, entered}
 use Rattle.table.specs.Law.{Stands}
 use Rattle.table.proofs.Counts.{cnt_append, cnt_put, cnt_cut, cnt_cut_le, cnt_cut_all, length_put, length_cut, pick_none, pick_put_other, pick_put_one, pick_cut_other}

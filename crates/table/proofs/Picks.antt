@@ -1,9 +1,9 @@
 -- One turn of a look-up by key, and of the look for a row's place.
-use Rattle.std.proofs.Common.{◌≡◌, ℕ, suc, ◌+◌, ◌<◌, ◌≤◌, Bool, true, false, cond, leb, ◌⊎◌, List, [], ◌∷◌, ◌++◌, length, get_or, take, drop, sym, refl, ap, ◌∙◌, subst, inl, inr, append_assoc, arith}
+use Rattle.std.proofs.Common.{◌≡◌, ℕ, suc, ◌+◌, ◌<◌, ◌≤◌, Bool, true, false, cond, leb, List, [], ◌∷◌, ◌++◌, length, get_or, take, drop, sym, refl, ap, ◌∙◌, subst, inl, inr, append_assoc, arith}
 use Rattle.std.specs.List.{remove, insert}
 use Rattle.std.proofs.lemmas.Bool.Decides.{nat_tests}
 use Rattle.std.proofs.lemmas.List.{set-get_or, set_split, take_more, drop_more, drop_all, get_or-take, length-take-le, get_or_default}
-use Rattle.table.specs.Count.{bit, cnt, has, cut, put, pick}
+use Rattle.table.specs.Count.{bit, cnt, cut, put, pick}
 use Rattle.table.specs.Held.{Among}
 use Rattle.table.proofs.Counts.{cnt_append, pick_none}
 

@@ -1,5 +1,5 @@
 -- Counting the rows of a list that pass a test, and a table's two moves. Assumes nothing.
-use Rattle.std.specs.Prelude.{ℕ, ◌+◌, Bool, true, false, cond, ◌||◌, List, [], ◌∷◌, nat_le}
+use Rattle.std.specs.Prelude.{ℕ, ◌+◌, Bool, false, cond, ◌||◌, List, [], ◌∷◌, nat_le}
 
 abbrev pub bit : Bool → ℕ
 bit b = cond b 1 0

@@ -53,7 +53,7 @@ impl<'a, R: Row> Table<'a, R> {
     // A table with no row yet.
     pub fn over(rows: &'a mut [R]) -> Table<'a, R>
         ensures none { listed result ≡ [] }
-        ensures single { Single same key_of (listed result) }
+        ensures single { Single R.same R.key_of (listed result) }
         ensures places { room result ≡ min (length rows.old) most }
     {
         Table { rows, len: 0 }
@@ -89,8 +89,8 @@ impl<'a, R: Row> Table<'a, R> {
 
     // The row of the key: one of them, where there are several.
     pub fn get(&self, key: R::Key) -> Option<R>
-        ensures found { One result (pick (of same key_of key) (listed self.now)) }
-        ensures answer { cnt (of same key_of key) (listed self.now) ≤ 1 → lone result ≡ pick (of same key_of key) (listed self.now) }
+        ensures found { One result (pick (of R.same R.key_of key) (listed self.now)) }
+        ensures answer { cnt (of R.same R.key_of key) (listed self.now) ≤ 1 → lone result ≡ pick (of R.same R.key_of key) (listed self.now) }
     {
         let n = self.used();
         get_in(self.rows, n, &key)
@@ -98,7 +98,7 @@ impl<'a, R: Row> Table<'a, R> {
 
     // Would a row of this key need a new place?
     pub fn needs_place(&self, key: R::Key) -> bool
-        ensures { result ≡ not (has (of same key_of key) (listed self.now)) }
+        ensures { result ≡ not (has (of R.same R.key_of key) (listed self.now)) }
     {
         match self.get(key) {
             Some(_) => false,
@@ -108,11 +108,11 @@ impl<'a, R: Row> Table<'a, R> {
 
     // Takes the row of the key out.
     pub fn remove(&mut self, key: R::Key) -> Option<R>
-        ensures found { One result (pick (of same key_of key) (listed self.old)) }
-        ensures answer { cnt (of same key_of key) (listed self.old) ≤ 1 → lone result ≡ pick (of same key_of key) (listed self.old) }
-        ensures after { listed self.new ≡ cut (of same key_of key) (listed self.old) }
+        ensures found { One result (pick (of R.same R.key_of key) (listed self.old)) }
+        ensures answer { cnt (of R.same R.key_of key) (listed self.old) ≤ 1 → lone result ≡ pick (of R.same R.key_of key) (listed self.old) }
+        ensures after { listed self.new ≡ cut (of R.same R.key_of key) (listed self.old) }
         ensures missing { is_some result ≡ false → self.new ≡ self.old }
-        ensures single { Single same key_of (listed self.old) → Single same key_of (listed self.new) }
+        ensures single { Single R.same R.key_of (listed self.old) → Single R.same R.key_of (listed self.new) }
         ensures places { room self.new ≡ room self.old }
     {
         let Some(row) = self.get(key) else {
@@ -125,9 +125,9 @@ impl<'a, R: Row> Table<'a, R> {
 
     // Puts a row behind all rows of its rank or lower, once the row of its key is out.
     pub fn insert(&mut self, row: R) -> Result<(), Refusal>
-        ensures decides { is_ok result ≡ takes (of same key_of (key_of row)) self.old }
-        ensures after { MatchResult result (λ _. listed self.new ≡ put rank_of row (cut (of same key_of (key_of row)) (listed self.old))) (λ e. (e ≡ NoPlace) × (self.new ≡ self.old)) }
-        ensures single { Single same key_of (listed self.old) → Single same key_of (listed self.new) }
+        ensures decides { is_ok result ≡ takes (of R.same R.key_of (R.key_of row)) self.old }
+        ensures after { MatchResult result (λ _. listed self.new ≡ put R.rank_of row (cut (of R.same R.key_of (R.key_of row)) (listed self.old))) (λ e. (e ≡ NoPlace) × (self.new ≡ self.old)) }
+        ensures single { Single R.same R.key_of (listed self.old) → Single R.same R.key_of (listed self.new) }
         ensures places { room self.new ≡ room self.old }
     {
         let n = self.used();
@@ -168,5 +168,5 @@ impl<'a, R: Row> Table<'a, R> {
 
 // What every table of a kind of row keeps, whatever is put in and taken out.
 pub fn laws_stand<R: Row>()
-    ensures { Stands same key_of rank_of }
+    ensures { Stands R.same R.key_of R.rank_of }
 {}

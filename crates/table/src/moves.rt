@@ -10,8 +10,8 @@ use super::Row;
 // A row of the key: the row, where there is at most one.
 pub fn get_in<R: Row>(rows: &[R], n: usize, key: &R::Key) -> Option<R>
     requires { n ≤ length rows.now }
-    ensures found { One result (pick (of same key_of key.now) (take n rows.now)) }
-    ensures answer { cnt (of same key_of key.now) (take n rows.now) ≤ 1 → lone result ≡ pick (of same key_of key.now) (take n rows.now) }
+    ensures found { One result (pick (of R.same R.key_of key.now) (take n rows.now)) }
+    ensures answer { cnt (of R.same R.key_of key.now) (take n rows.now) ≤ 1 → lone result ≡ pick (of R.same R.key_of key.now) (take n rows.now) }
 {
     match find(front(rows, n), key) {
         Some(i) => Some(row_at(rows, i)),
@@ -23,7 +23,7 @@ pub fn get_in<R: Row>(rows: &[R], n: usize, key: &R::Key) -> Option<R>
 pub fn drop_all<R: Row>(rows: &mut [R], n: usize, key: &R::Key) -> usize
     requires { n ≤ length rows.old }
     ensures bound { result ≤ n }
-    ensures after { take result rows.new ≡ cut (of same key_of key.now) (take n rows.old) }
+    ensures after { take result rows.new ≡ cut (of R.same R.key_of key.now) (take n rows.old) }
     ensures kept { result ≡ n → rows.new ≡ rows.old }
 {
     let mut m = n;
@@ -37,7 +37,7 @@ pub fn drop_all<R: Row>(rows: &mut [R], n: usize, key: &R::Key) -> usize
 // Puts a row among the first n, which are then n + 1, behind those of no higher rank.
 pub fn put_in<R: Row>(rows: &mut [R], n: usize, row: R)
     requires { n < length rows.old }
-    ensures { take (n + 1) rows.new ≡ put rank_of row (take n rows.old) }
+    ensures { take (n + 1) rows.new ≡ put R.rank_of row (take n rows.old) }
 {
     let i = rank_place(front(rows, n), &row);
     open(rows, n, i, row);
@@ -45,7 +45,7 @@ pub fn put_in<R: Row>(rows: &mut [R], n: usize, row: R)
 
 // A place where the key stands.
 fn find<R: Row>(rows: &[R], key: &R::Key) -> Option<usize>
-    ensures { MatchOption result (cnt (of same key_of key.now) rows.now ≡ 0) (λ i. (i < length rows.now) × ((d : R) → of same key_of key.now (slice_index_or rows.now i d) ≡ true)) }
+    ensures { MatchOption result (cnt (of R.same R.key_of key.now) rows.now ≡ 0) (λ i. (i < length rows.now) × ((d : R) → of R.same R.key_of key.now (slice_index_or rows.now i d) ≡ true)) }
 {
     let mut i = 0;
     while i < rows.len() {
@@ -59,7 +59,7 @@ fn find<R: Row>(rows: &[R], key: &R::Key) -> Option<usize>
 
 // Behind how many rows a row belongs.
 fn rank_place<R: Row>(rows: &[R], row: &R) -> usize
-    ensures { (result ≤ length rows.now) × (put rank_of row.now rows.now ≡ insert rows.now result row.now) }
+    ensures { (result ≤ length rows.now) × (put R.rank_of row.now rows.now ≡ insert rows.now result row.now) }
 {
     let rank = row.rank();
     let mut i = 0;

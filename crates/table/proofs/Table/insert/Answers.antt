@@ -7,8 +7,8 @@ use Rattle.table.proofs.Laws.{stands}
 use Rattle.table.proofs.Rooms.{taken, full, all_stay, listed_fits, room_most}
 use Rattle.table.proofs.Table.insert.Goals as goal
 
-pub put-in-requires : goal.put-in-requires
-put-in-requires g c = omega arith
+pub put_in-requires : goal.put_in-requires
+put_in-requires g c = omega arith
 
 pub returns-then-m-places : goal.returns-then-m-places
 unfolding listed room
@@ -19,12 +19,12 @@ returns-then-m-places g c =
     let laws = stands same key rank g.met.R.Row.reflexive g.met.R.Row.symmetric g.met.R.Row.transitive in
     let row = c.args.row in
     let t = c.args.self.now in
-    let m = c.drop-all-m.result in
-    let ys = c.drop-all-m.new.rows in
-    let zs = c.put-in.new.rows in
-    let d : take m ys ≡ cut (of same key (key row)) (listed t) = c.drop-all-m.ensures.after ∙ ap₂ (λ k l. cut (of same key k) l) c.key.ensures c.used-n.ensures.part in
+    let m = c.drop_all-m.result in
+    let ys = c.drop_all-m.new.rows in
+    let zs = c.put_in.new.rows in
+    let d : take m ys ≡ cut (of same key (key row)) (listed t) = c.drop_all-m.ensures.after ∙ ap₂ (λ k l. cut (of same key k) l) c.key.ensures c.used-n.ensures.part in
     let k : min (m + 1) most ≡ m + 1 = omega (arith, room_most t) in
-    let s : take (min (m + 1) most) zs ≡ entered same key rank row (listed t) = ap (λ n. take n zs) k ∙ (c.put-in.ensures ∙ ap (put rank row) d) in
+    let s : take (min (m + 1) most) zs ≡ entered same key rank row (listed t) = ap (λ n. take n zs) k ∙ (c.put_in.ensures ∙ ap (put rank row) d) in
     record {
       decides = sym (taken (of same key (key row)) (listed t) (room t) (omega (arith, ap length d, length-take-le m ys (omega arith))));
       after = s;
@@ -38,11 +38,11 @@ returns-else-m-places g c =
     let key = g.R.Row.key_of in
     let p = of same key (key c.args.row) in
     let t = c.args.self.now in
-    let m : c.drop-all-m.result ≡ c.used-n.result = omega arith in
-    let e : c.drop-all-m.new.rows ≡ t.rows.now = c.drop-all-m.ensures.kept m in
-    let d : take c.drop-all-m.result c.drop-all-m.new.rows ≡ cut p (listed t) = c.drop-all-m.ensures.after ∙ ap₂ (λ k l. cut (of same key k) l) c.key.ensures c.used-n.ensures.part in
+    let m : c.drop_all-m.result ≡ c.used-n.result = omega arith in
+    let e : c.drop_all-m.new.rows ≡ t.rows.now = c.drop_all-m.ensures.kept m in
+    let d : take c.drop_all-m.result c.drop_all-m.new.rows ≡ cut p (listed t) = c.drop_all-m.ensures.after ∙ ap₂ (λ k l. cut (of same key k) l) c.key.ensures c.used-n.ensures.part in
     let f : listed t ≡ cut p (listed t) = sym c.used-n.ensures.part ∙ (ap₂ take (sym m) (sym e) ∙ d) in
-    let u : record { rows = set_vals c.drop-all-m.new.rows t.rows; len = t.len } ≡ t = ap (λ l. record { rows = set_vals l t.rows; len = t.len }) e in
+    let u : record { rows = set_vals c.drop_all-m.new.rows t.rows; len = t.len } ≡ t = ap (λ l. record { rows = set_vals l t.rows; len = t.len }) e in
     record {
       decides = sym (full p (listed t) (room t) (all_stay p (listed t) (room t) (omega (arith, ap length f)) (listed_fits t)) (omega arith));
       after = (refl, u);

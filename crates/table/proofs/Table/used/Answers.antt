@@ -1,4 +1,4 @@
-use Rattle.std.proofs.Common.{◌≡◌, min, sym, ◌∙◌, arith}
+use Rattle.std.proofs.Common.{arith}
 use Rattle.table.specs.Held.{listed, room, most}
 use Rattle.table.proofs.Clamp.{take_clamp, length_clamp}
 use Rattle.table.proofs.Table.used.Goals as goal

@@ -20,6 +20,6 @@ returns g c =
     let p = of g.R.Row.same g.R.Row.key_of c.args.key.now in
     record {
       bound = c.loop-i.invariant.0;
-      after = sym (cut_none p _ (sym (ap (cnt p) c.front.ensures) ∙ c.in-default.ensures)) ∙ c.loop-i.invariant.2;
+      after = sym (cut_none p _ (sym (ap (cnt p) c.front.ensures) ∙ c.in_default.ensures)) ∙ c.loop-i.invariant.2;
       kept = c.loop-i.invariant.3;
     }

@@ -1,4 +1,4 @@
-use Rattle.std.proofs.Common.{◌≡◌, false, length, take, sym, ap, ◌∙◌, arith}
+use Rattle.std.proofs.Common.{◌≡◌, sym, ap, arith}
 use Rattle.std.proofs.lemmas.List.{take_all}
 use Rattle.table.specs.Count.{cnt, bit}
 use Rattle.table.specs.Held.{of}
@@ -9,7 +9,7 @@ pub loop-i-preserved : goal.loop-i-preserved
 loop-i-preserved g c =
     let p = of g.R.Row.same g.R.Row.key_of c.args.key.now in
     let m = cnt_more p c.args.rows.now c.loop-i.i _ c.loop-i-test.true c.index-rows-i.is in
-    let f : bit (p c.index-rows-i.result) ≡ 0 = ap bit (sym c.if-has-key.ensures) in
+    let f : bit (p c.index-rows-i.result) ≡ 0 = ap bit (sym c.if-has_key.ensures) in
     (omega arith, omega arith)
 
 pub returns : goal.returns

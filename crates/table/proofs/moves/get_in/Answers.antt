@@ -9,8 +9,8 @@ pub returns-in-Some : goal.returns-in-Some
 returns-in-Some g c =
     let p = of g.R.Row.same g.R.Row.key_of c.args.key.now in
     record {
-      found = among p c.args.rows.now _ c.args.n _ _ c.front.ensures c.requires c.in-Some.ensures.0 c.row-at.ensures c.in-Some.ensures.1;
-      answer = λ one. sym (picked p c.args.rows.now _ c.args.n _ _ c.front.ensures c.requires c.in-Some.ensures.0 c.row-at.ensures c.in-Some.ensures.1 one);
+      found = among p c.args.rows.now _ c.args.n _ _ c.front.ensures c.requires c.in-Some.ensures.0 c.row_at.ensures c.in-Some.ensures.1;
+      answer = λ one. sym (picked p c.args.rows.now _ c.args.n _ _ c.front.ensures c.requires c.in-Some.ensures.0 c.row_at.ensures c.in-Some.ensures.1 one);
     }
 
 pub returns-in-None : goal.returns-in-None
