@@ -1,5 +1,5 @@
 -- The laws of a table at each of the six kinds. Keys are the same where one or two numbers of them are.
-use Rattle.std.proofs.Common.{◌≡◌, ℕ, Bool, true, ◌&&◌, eqb, arith}
+use Rattle.std.proofs.Common.{ℕ, Bool, ◌&&◌, eqb, arith}
 use Rattle.std.proofs.lemmas.Bool.Decides.{nat_tests}
 use Rattle.table.specs.Law.{Stands}
 use Rattle.table.proofs.Laws.{stands}
