@@ -3,4 +3,4 @@ use Rattle.trace.proofs.makers.begin.Goals as goal
 
 pub returns : goal.returns
 unfolding begin_event
-returns c = c.coded-event.ensures
+returns c = c.coded_event.ensures

@@ -3,4 +3,4 @@ use Rattle.trace.proofs.makers.paused_instant.Goals as goal
 
 pub returns : goal.returns
 unfolding paused_event
-returns c = c.coded-event.ensures
+returns c = c.coded_event.ensures

@@ -3,4 +3,4 @@ use Rattle.trace.proofs.makers.slow_script.Goals as goal
 
 pub returns : goal.returns
 unfolding slow_script_event
-returns c = c.coded-event.ensures
+returns c = c.coded_event.ensures

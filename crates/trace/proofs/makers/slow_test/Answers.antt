@@ -3,4 +3,4 @@ use Rattle.trace.proofs.makers.slow_test.Goals as goal
 
 pub returns : goal.returns
 unfolding slow_test_event
-returns c = c.coded-event.ensures
+returns c = c.coded_event.ensures
