@@ -1,10 +1,9 @@
 -- A reader finds texts and numbers again.
-use Rattle.std.proofs.Common.{◌≡◌, ℕ, ◌+◌, ◌^◌, ◌<◌, ◌≤◌, Bool, true, false, cond, ◌||◌, eqb, List, [], ◌∷◌, ◌++◌, length, get_or, decimal, sym, refl, ap, ◌∙◌, subst, ap₂, inl, inr, append_assoc, arith}
-use Rattle.std.specs.Str.Parse.{AllDigits, digits_value}
-use Rattle.std.proofs.lemmas.Bool.{cases_lt, eqb-true}
+use Rattle.std.proofs.Common.{◌≡◌, ℕ, ◌^◌, ◌<◌, Bool, true, false, cond, ◌||◌, eqb, List, [], ◌∷◌, ◌++◌, length, get_or, decimal, sym, refl, ap, ◌∙◌, inl, inr, append_assoc, arith}
+use Rattle.std.proofs.lemmas.Bool.{cases_lt}
 use Rattle.std.proofs.lemmas.Fmt.{decimal_is_IsNumeral, decimal_nonempty, decimal_digit, first_decimal}
 use Rattle.outs.specs.Texts.{escaped_byte, escaped}
-use Rattle.outs.specs.Laws.{quoted, behind_quote, TextsComeBack, Plain, NumbersPlain}
+use Rattle.outs.specs.Laws.{quoted, behind_quote, TextsComeBack, NumbersPlain}
 
 -- what is neither a quote nor a backslash
 neither : (q s : Bool) (x y z : List ℕ) → (q || s) ≡ false → cond q x (cond s y z) ≡ z

@@ -1,5 +1,5 @@
 -- Texts one behind the other, and the two passes: the first counts, the second writes.
-use Rattle.std.proofs.Common.{◌≡◌, ℕ, ◌+◌, ◌<◌, ◌≤◌, List, [], length, Some, None, Ok, Err, Option, refl, ap, append_assoc, append-nil, arith}
+use Rattle.std.proofs.Common.{◌≡◌, ℕ, List, [], length, Some, None, Ok, Err, refl, ap, append_assoc, append-nil, arith}
 use Rattle.refusal.specs.declared.Refusal.TheVariants.{Unwritable}
 use Rattle.outs.specs.Texts.{Text, ◌+?◌}
 use Rattle.outs.specs.Outs.{Filled, Counted, Answered}

@@ -1,3 +1,4 @@
 pub mod Texts
 pub mod Outs
+pub mod Adding
 pub mod Laws

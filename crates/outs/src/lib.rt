@@ -5,7 +5,8 @@ ghost use Rattle.std.specs.Prelude.{◌≡◌, ◌+◌, ◌≤◌, [], ◌++◌,
 ghost use Rattle.std.proofs.Common.{◌∙◌};
 ghost use Rattle.std.specs.Fmt.{signed_decimal};
 ghost use Rattle.outs.specs.Texts.{Text, ◌+?◌, below_zero, escaped_byte, escaped};
-ghost use Rattle.outs.specs.Outs.{Filled, filled_still, filled_join, Counted, counted_still, counted_join};
+ghost use Rattle.outs.specs.Outs.{Filled, Counted};
+ghost use Rattle.outs.specs.Adding.{filled_still, filled_join, counted_still, counted_join};
 ghost use Rattle.outs.specs.Laws.{TextsComeBack, NumbersPlain};
 
 // What texts are added to, one behind the other; neither call can fail.
@@ -13,9 +14,9 @@ pub trait Out {
     // this text was added
     ghost added: { Self → Text → Self → Type 0 };
 
-    ghost still: { {s : Self} → added s (Some []) s };
+    ghost still: { (s : Self) → added s (Some []) s };
 
-    ghost join: { {a b c : Self} {x y : Text} → added a x b → added b y c → added a (x +? y) c };
+    ghost join: { (a b c : Self) (x y : Text) → added a x b → added b y c → added a (x +? y) c };
 
     fn put(&mut self, text: &[u8])
         ensures { added self.old (Some text.now) self.new };
@@ -34,9 +35,9 @@ pub struct Counter {
 impl Out for Counter {
     ghost added = { λ a x b. Counted a.left x b.left };
 
-    ghost still = { λ {s}. counted_still s.left };
+    ghost still = { λ s. counted_still s.left };
 
-    ghost join = { λ {a} {b} {c} {x} {y}. counted_join a.left b.left c.left x y };
+    ghost join = { λ a b c x y. counted_join a.left b.left c.left x y };
 
     fn put(&mut self, text: &[u8]) {
         self.left = match self.left {
@@ -75,9 +76,9 @@ fn copy_in(out: &mut [u8], at: usize, text: &[u8])
 impl<'a> Out for Buffer<'a> {
     ghost added = { λ a x b. (b.out.ghost_name ≡ a.out.ghost_name) × Filled a.out.now a.at x b.out.now b.at };
 
-    ghost still = { λ {s}. (refl, filled_still s.out.now s.at) };
+    ghost still = { λ s. (refl, filled_still s.out.now s.at) };
 
-    ghost join = { λ {a} {b} {c} {x} {y} p q. (q.0 ∙ p.0, filled_join a.out.now b.out.now c.out.now a.at b.at c.at x y p.1 q.1) };
+    ghost join = { λ a b c x y p q. (q.0 ∙ p.0, filled_join a.out.now b.out.now c.out.now a.at b.at c.at x y p.1 q.1) };
 
     fn put(&mut self, text: &[u8]) {
         let at = self.at;
@@ -110,7 +111,7 @@ fn put_digits(out: &mut [u8], n: u64) -> usize
 
 // A number in decimal.
 pub fn number<O: Out>(o: &mut O, n: u64)
-    ensures { added o.old (Some (decimal n)) o.new }
+    ensures { O.added o.old (Some (decimal n)) o.new }
 {
     let mut digits = [0u8; 20];
     let i = put_digits(&mut digits, n);
@@ -126,7 +127,7 @@ fn split_sign(z: i64) -> (bool, u64)
 
 // A number in decimal, with a minus in front where it is below 0.
 pub fn signed_number<O: Out>(o: &mut O, z: i64)
-    ensures { added o.old (Some (signed_decimal z)) o.new }
+    ensures { O.added o.old (Some (signed_decimal z)) o.new }
 {
     let (minus, n) = split_sign(z);
     if minus {
@@ -138,7 +139,7 @@ pub fn signed_number<O: Out>(o: &mut O, z: i64)
 }
 
 fn escaped_byte<O: Out>(o: &mut O, b: u8)
-    ensures { added o.old (Some (escaped_byte b)) o.new }
+    ensures { O.added o.old (Some (escaped_byte b)) o.new }
 {
     if b == b'"' || b == b'\\' {
         o.put(&[b'\\', b]);
@@ -149,7 +150,7 @@ fn escaped_byte<O: Out>(o: &mut O, b: u8)
 
 // A text with its quotes and backslashes escaped.
 pub fn escape<O: Out>(o: &mut O, text: &[u8])
-    ensures { added o.old (Some (escaped text.now)) o.new }
+    ensures { O.added o.old (Some (escaped text.now)) o.new }
 {
     for b in text {
         escaped_byte(o, *b);

@@ -8,7 +8,7 @@ pub loop-b-preserved : goal.loop-b-preserved
 loop-b-preserved g c =
     let more = take_more c.args.text.now c.loop-b.b-index 0 (omega arith) in
     same_text g.O.Out.added (flat_map_more escaped_byte [] (take c.loop-b.b-index c.args.text.now) _ ∙ ap escaped (sym more))
-    (g.O.Out.join c.loop-b.invariant c.escaped_byte.ensures)
+    (g.O.Out.join _ _ _ _ _ c.loop-b.invariant c.escaped_byte.ensures)
 
 pub returns : goal.returns
 returns g c =

@@ -1,4 +1,4 @@
-use Rattle.std.proofs.Common.{◌≡◌, ◌+◌, ◌-◌, ◌<◌, ◌≤◌, ◌++◌, length, drop, set, decimal, refl, ap, ◌∙◌, append-nil, arith}
+use Rattle.std.proofs.Common.{◌+◌, ◌-◌, ◌++◌, length, set, decimal, ap, ◌∙◌, append-nil, arith}
 use Rattle.std.proofs.lemmas.List.{drop_all, length-set, length-drop}
 use Rattle.std.proofs.lemmas.Fmt.{length-decimal-le, decimal_nonempty}
 use Rattle.outs.proofs.Steps.{longer, digit_more, digit_last}
@@ -8,11 +8,11 @@ pub loop-left-init : goal.loop-left-init
 loop-left-init c =
     (c.requires, omega arith, length-decimal-le 20 c.args.n (omega arith) (omega arith) (omega arith), omega arith, ap (λ l. decimal c.args.n ++ l) (drop_all 20 c.args.out.now (omega arith)) ∙ append-nil (decimal c.args.n))
 
-pub overflow-sub-i : goal.overflow-sub-i
-overflow-sub-i c = omega (arith, decimal_nonempty c.loop-left.left c.loop-left.invariant.1)
+pub overflow_sub-i : goal.overflow_sub-i
+overflow_sub-i c = omega (arith, decimal_nonempty c.loop-left.left c.loop-left.invariant.1)
 
-pub overflow-sub-i-2 : goal.overflow-sub-i-2
-overflow-sub-i-2 c = omega (arith, decimal_nonempty c.loop-left.left c.loop-left.invariant.1)
+pub overflow_sub-i-2 : goal.overflow_sub-i-2
+overflow_sub-i-2 c = omega (arith, decimal_nonempty c.loop-left.left c.loop-left.invariant.1)
 
 pub loop-left-preserved : goal.loop-left-preserved
 loop-left-preserved c =
