@@ -1,12 +1,12 @@
 -- What is shown is what the codes stand for.
-use Rattle.std.proofs.Common.{◌≡◌, ℕ, true, false, List, [], ◌∷◌, get_or, Some, None, Option, sym, refl, ap, ◌∙◌}
+use Rattle.std.proofs.Common.{◌≡◌, ℕ, true, false, [], ◌∷◌, get_or, Some, None, Option, refl, ap, ◌∙◌}
 use lib.ListN.{get_or-map}
 use Rattle.trace.specs.declared.Phase.{Phase}
 use Rattle.trace.specs.declared.Phase.TheVariants.{Begin, End, Metadata, Instant, Counter, FlowStart, FlowFinish}
 use Rattle.trace.specs.declared.Category.TheVariants.{Test, SetupScript, Stress, Run, Empty}
 use Rattle.trace.specs.declared.Word.{Word}
 use Rattle.trace.specs.declared.Word.TheVariants.{TestRun, SubRun, Concurrency, TestResults, Retry, Slow, Cancel, Paused, Continued, ProcessName, ProcessSortIndex, ThreadName, ThreadSortIndex}
-use Rattle.trace.specs.declared.Label.TheVariants.{Fixed, Text as OneText, TwoTexts}
+use Rattle.trace.specs.declared.Label.TheVariants.{Text as OneText, TwoTexts}
 use Rattle.trace.specs.declared.NamePattern.TheVariants.{NextestRun, NextestRunOf, RunLane, SubRuns, SetupScripts, ScriptNumber, Tests, BookText, SlotNumber}
 use Rattle.trace.specs.Phases.{letter_of}
 use Rattle.trace.specs.Categories.{category_named}

@@ -1,8 +1,7 @@
 -- Each part of the fixed words is the word that it stands for, and each book number is known or unknown.
-use Rattle.std.proofs.Common.{◌≡◌, ℕ, ◌^◌, ◌<◌, ◌≤◌, List, [], ◌∷◌, length, Some, None, Option, sym, refl, ap, ◌∙◌, arith}
+use Rattle.std.proofs.Common.{◌≡◌, ℕ, ◌^◌, ◌≤◌, [], ◌∷◌, Some, None, Option, sym, ap, ◌∙◌, arith}
 use lib.ListN.{get_or-map}
-use Rattle.names.specs.Shelf.{part_in, most}
-use Rattle.names.specs.Texts.{text_at}
+use Rattle.names.specs.Shelf.{part_in}
 use Rattle.names.specs.Book.{texts}
 use Rattle.names.specs.declared.book.NameBook.{NameBook}
 use Rattle.names.specs.declared.book.Shown.{Shown}

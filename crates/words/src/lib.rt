@@ -16,7 +16,7 @@ const WORDS: &[u8] =
 
 // A word, escaped: a text of the book or a part of the fixed words.
 fn show<O: Out>(o: &mut O, book: &NameBook, which: Shown)
-    ensures { added o.old (shown (shown_of (texts book.now) words which)) o.new }
+    ensures { O.added o.old (shown (shown_of (texts book.now) words which)) o.new }
 {
     match book.word_from(WORDS, which) {
         Some(word) => escape(o, word),
@@ -26,7 +26,7 @@ fn show<O: Out>(o: &mut O, book: &NameBook, which: Shown)
 
 // How a book number is shown: every text of the output comes from here.
 pub fn text<O: Out>(o: &mut O, book: &NameBook, n: u64)
-    ensures { added o.old (book_text book.now n) o.new }
+    ensures { O.added o.old (book_text book.now n) o.new }
 {
     if n <= u32::MAX as u64 {
         show(o, book, Shown::BookText(n as u32));
@@ -36,7 +36,7 @@ pub fn text<O: Out>(o: &mut O, book: &NameBook, n: u64)
 }
 
 fn part<O: Out>(o: &mut O, book: &NameBook, which: Option<Shown>)
-    ensures { added o.old (part_text book.now which) o.new }
+    ensures { O.added o.old (part_text book.now which) o.new }
 {
     match which {
         Some(word) => show(o, book, word),
@@ -99,27 +99,27 @@ fn display_part(code: u64) -> Option<Shown>
 
 // The fixed word of a label.
 fn label_word<O: Out>(o: &mut O, book: &NameBook, code: u64)
-    ensures { added o.old (label_word code) o.new }
+    ensures { O.added o.old (label_word code) o.new }
 {
     part(o, book, label_part(code));
 }
 
 pub fn category<O: Out>(o: &mut O, book: &NameBook, code: u64)
-    ensures { added o.old (category_text code) o.new }
+    ensures { O.added o.old (category_text code) o.new }
 {
     part(o, book, category_part(code));
 }
 
 // What a display begins with.
 fn display_word<O: Out>(o: &mut O, book: &NameBook, code: u64)
-    ensures { added o.old (display_word code) o.new }
+    ensures { O.added o.old (display_word code) o.new }
 {
     part(o, book, display_part(code));
 }
 
 // What a process or a lane is called.
 pub fn display<O: Out>(o: &mut O, book: &NameBook, code: u64, n: u64)
-    ensures { added o.old (display_text (book_text book.now) code n) o.new }
+    ensures { O.added o.old (display_text (book_text book.now) code n) o.new }
 {
     match code {
         1 => display_word(o, book, 1),
@@ -146,7 +146,7 @@ pub fn display<O: Out>(o: &mut O, book: &NameBook, code: u64, n: u64)
 }
 
 pub fn label<O: Out>(o: &mut O, book: &NameBook, kind: u64, first: u64, second: u64)
-    ensures { added o.old (label_text (book_text book.now) kind first second) o.new }
+    ensures { O.added o.old (label_text (book_text book.now) kind first second) o.new }
 {
     match kind {
         1 => label_word(o, book, first),
@@ -161,7 +161,7 @@ pub fn label<O: Out>(o: &mut O, book: &NameBook, kind: u64, first: u64, second: 
 }
 
 pub fn phase_letter<O: Out>(o: &mut O, letter: u8)
-    ensures { added o.old (phase_text letter) o.new }
+    ensures { O.added o.old (phase_text letter) o.new }
 {
     match letter {
         b'B' | b'E' | b'M' | b'i' | b'C' | b's' | b'f' => o.put(&[letter]),
@@ -170,7 +170,7 @@ pub fn phase_letter<O: Out>(o: &mut O, letter: u8)
 }
 
 pub fn flag<O: Out>(o: &mut O, n: u64)
-    ensures { added o.old (flag_text n) o.new }
+    ensures { O.added o.old (flag_text n) o.new }
 {
     match n {
         0 => o.put(b"false"),

@@ -10,8 +10,8 @@ returns c =
     let s = shelf_of c.args.book.now in
     let a = c.args.a.now in
     let b = c.args.b.now in
-    let told = sym c.in-ok-numbers.ensures in
+    let told = sym c.in_ok-numbers.ensures in
     let p = plan_stands s a b _ _ told in
     let one = MatchResult-at_ok _ _ _ (c.enter.ensures.answer ∙ p.0) c.enter.ensures.after in
     let two = MatchResult-at_ok _ _ _ (c.enter-2.ensures.answer ∙ (ap (λ t. planned_one t b) one ∙ p.1)) c.enter-2.ensures.after in
-    record { answer = c.in-ok-numbers.ensures; after = two ∙ ap (λ t. entered t b) one }
+    record { answer = c.in_ok-numbers.ensures; after = two ∙ ap (λ t. entered t b) one }

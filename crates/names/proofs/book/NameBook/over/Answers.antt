@@ -4,8 +4,8 @@ use Rattle.names.proofs.Numbers.{apart_none}
 use Rattle.names.proofs.Shelves.{same_shelf}
 use Rattle.names.proofs.book.NameBook.over.Goals as goal
 
-pub invariant-of-result : goal.invariant-of-result
-invariant-of-result c = ((omega arith, omega arith, omega arith, omega arith, apart_none), tt)
+pub invariant_of-result : goal.invariant_of-result
+invariant_of-result c = record { kept = (omega arith, omega arith, omega arith, omega arith, apart_none) }
 
 pub returns : goal.returns
 unfolding shelf_of

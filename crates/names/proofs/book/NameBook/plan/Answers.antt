@@ -5,14 +5,14 @@ use Rattle.names.proofs.Shelves.{plan_both, plan_second_err, plan_first_err}
 use Rattle.names.proofs.book.NameBook.plan.Goals as goal
 
 pub returns : goal.returns
-returns c = sym (plan_both (shelf_of c.args.self.now) c.args.a.now c.args.b.now _ (sym c.in-ok-first.ensures) _ (sym c.in-ok-second.ensures))
+returns c = sym (plan_both (shelf_of c.args.self.now) c.args.a.now c.args.b.now _ (sym c.in_ok-first.ensures) _ (sym c.in_ok-second.ensures))
 
-pub returns-in-err-second : goal.returns-in-err-second
-returns-in-err-second c =
-    let p = err_from_is_err_and c.from-residual-in-err-second.result c.from-residual-in-err-second.ensures.1 in
-    rw (p.1, p.2) (sym (plan_second_err (shelf_of c.args.self.now) c.args.a.now c.args.b.now _ (sym c.in-ok-first.ensures) _ (sym c.in-err-second.ensures)))
+pub returns-in_err-second : goal.returns-in_err-second
+returns-in_err-second c =
+    let p = err_from_is_err_and c.from_residual-in_err-second.result c.from_residual-in_err-second.ensures.1 in
+    rw (p.1, p.2) (sym (plan_second_err (shelf_of c.args.self.now) c.args.a.now c.args.b.now _ (sym c.in_ok-first.ensures) _ (sym c.in_err-second.ensures)))
 
-pub returns-in-err-first : goal.returns-in-err-first
-returns-in-err-first c =
-    let p = err_from_is_err_and c.from-residual.result c.from-residual.ensures.1 in
-    rw (p.1, p.2) (sym (plan_first_err (shelf_of c.args.self.now) c.args.a.now c.args.b.now _ (sym c.in-err-first.ensures)))
+pub returns-in_err-first : goal.returns-in_err-first
+returns-in_err-first c =
+    let p = err_from_is_err_and c.from_residual.result c.from_residual.ensures.1 in
+    rw (p.1, p.2) (sym (plan_first_err (shelf_of c.args.self.now) c.args.a.now c.args.b.now _ (sym c.in_err-first.ensures)))

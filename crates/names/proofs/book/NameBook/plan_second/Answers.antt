@@ -19,12 +19,12 @@ returns-in-None c =
     let a = c.args.a.now in
     let b = c.args.b.now in
     c.next.ensures
-    ∙ (ap (λ p. next_number p.count p.entries p.bytes (length b)) c.space-with.ensures
-    ∙ sym (planned_new (entered s a) b (new_kept s a b c.in-None.ensures.stands (sym c.if-same-text.ensures))))
+    ∙ (ap (λ p. next_number p.count p.entries p.bytes (length b)) c.space_with.ensures
+    ∙ sym (planned_new (entered s a) b (new_kept s a b c.in-None.ensures.stands (sym c.if-same_text.ensures))))
 
-pub returns-then-same-text : goal.returns-then-same-text
-returns-then-same-text c =
+pub returns-then-same_text : goal.returns-then-same_text
+returns-then-same_text c =
     let s = shelf_of c.args.self.now in
     let a = c.args.a.now in
-    let e = same_is _ _ (sym c.if-same-text.ensures) in
+    let e = same_is _ _ (sym c.if-same_text.ensures) in
     ap Ok ((planned_ok s a _ c.requires).1 ∙ sym (number_entered s a)) ∙ (sym (planned_known (entered s a) a (has_entered s a)) ∙ ap (planned_one (entered s a)) e)

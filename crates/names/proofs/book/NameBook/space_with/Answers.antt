@@ -4,14 +4,14 @@ use Rattle.names.specs.Book.{shelf_of, space_of}
 use Rattle.names.proofs.Shelves.{planned_past, planned_within, entered_known, entered_new}
 use Rattle.names.proofs.book.NameBook.space_with.Goals as goal
 
-pub overflow-sub-result : goal.overflow-sub-result
-overflow-sub-result c =
+pub overflow_sub-result : goal.overflow_sub-result
+overflow_sub-result c =
     let e = c.space-space.ensures in
     let q = planned_past (shelf_of c.args.self.now) c.args.text.now _ c.requires (omega (arith, ap (λ p. p.count) e)) in
     omega (arith, ap (λ p. p.entries) e)
 
-pub overflow-sub-result-then-number-space : goal.overflow-sub-result-then-number-space
-overflow-sub-result-then-number-space c =
+pub overflow_sub-result-then-number-space : goal.overflow_sub-result-then-number-space
+overflow_sub-result-then-number-space c =
     let e = c.space-space.ensures in
     let q = planned_past (shelf_of c.args.self.now) c.args.text.now _ c.requires (omega (arith, ap (λ p. p.count) e)) in
     omega (arith, ap (λ p. p.bytes) e)

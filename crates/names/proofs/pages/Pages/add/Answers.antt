@@ -13,8 +13,8 @@ returns c =
     let bs = p.bytes.now in
     let a = c.args.text.now in
     let k = length-set es p.count (record { start = p.used; len = length a }) in
-    let l = listed_more es bs c.put-text.new.bytes p.count p.used a c.requires.room.0 c.requires.kept.2 c.requires.kept.3 c.put-text.ensures in
-    let r = reach_more es bs c.put-text.new.bytes p.count p.used a c.requires.room.0 c.requires.kept.2 c.requires.kept.3 c.put-text.ensures in
+    let l = listed_more es bs c.put_text.new.bytes p.count p.used a c.requires.room.0 c.requires.kept.2 c.requires.kept.3 c.put_text.ensures in
+    let r = reach_more es bs c.put_text.new.bytes p.count p.used a c.requires.room.0 c.requires.kept.2 c.requires.kept.3 c.put_text.ensures in
     record {
       kept = (omega arith, omega arith, omega arith, r, subst Apart (sym l) (apart_push _ a c.requires.kept.4 c.requires.new));
       after = same_shelf l (omega arith) (omega arith);

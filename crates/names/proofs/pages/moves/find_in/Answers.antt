@@ -8,11 +8,11 @@ pub loop-i-init : goal.loop-i-init
 unfolding has
 loop-i-init c = refl
 
-pub is-text-requires : goal.is-text-requires
-is-text-requires c = within c.args.entries.now c.args.bytes.now c.args.n c.requires.0 c.loop-i.i blank (omega arith) _ c.requires.1
+pub is_text-requires : goal.is_text-requires
+is_text-requires c = within c.args.entries.now c.args.bytes.now c.args.n c.requires.0 c.loop-i.i blank (omega arith) _ c.requires.1
 
-pub returns-then-is-text : goal.returns-then-is-text
-returns-then-is-text c = (omega arith, listed_at c.args.entries.now c.args.bytes.now c.args.n c.requires.0 c.loop-i.i blank (omega arith) _ (same_is _ _ (sym c.if-is-text.ensures)))
+pub returns-then-is_text : goal.returns-then-is_text
+returns-then-is_text c = (omega arith, listed_at c.args.entries.now c.args.bytes.now c.args.n c.requires.0 c.loop-i.i blank (omega arith) _ (same_is _ _ (sym c.if-is_text.ensures)))
 
 pub loop-i-preserved : goal.loop-i-preserved
-loop-i-preserved c = has_more c.args.entries.now c.args.bytes.now c.loop-i.i blank _ (omega arith) c.loop-i.invariant (sym c.if-is-text.ensures)
+loop-i-preserved c = has_more c.args.entries.now c.args.bytes.now c.loop-i.i blank _ (omega arith) c.loop-i.invariant (sym c.if-is_text.ensures)

@@ -8,4 +8,4 @@ returns c =
     let bs = c.args.bytes.now in
     let len = length c.args.text.now in
     let k : at + len - at ≡ len = omega arith in
-    ap₂ (λ ys zs. take at bs ++ (ys ++ zs)) c.copy-from-slice.ensures.after (ap (λ j. drop j (drop at bs)) k ∙ drop-drop len at bs)
+    ap₂ (λ ys zs. take at bs ++ (ys ++ zs)) c.copy_from_slice.ensures.after (ap (λ j. drop j (drop at bs)) k ∙ drop-drop len at bs)

@@ -6,7 +6,7 @@ use Rattle.names.proofs.pages.moves.same_text.Goals as goal
 
 pub returns-then-a-b : goal.returns-then-a-b
 returns-then-a-b c =
-    let d = slice_eq-Decides Decides-eqb _ _ _ c.eq.ensures in
+    let d = slice_eq-Decides Decides-eqb c.args.a.now c.args.b.now _ c.eq.ensures in
     let s = bytes_eq-Decides c.args.a.now c.args.b.now in
     grind (arith, nat_tests)
 
