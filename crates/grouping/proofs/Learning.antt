@@ -1,5 +1,5 @@
 -- What a table of binaries answers once a binary has its row.
-use Rattle.std.proofs.Common.{◌≡◌, ℕ, ◌+◌, ◌<◌, ◌≤◌, Bool, true, false, cond, ◌||◌, eqb, ltb, List, [], ◌∷◌, length, is_ok, Some, None, Ok, Err, Option, Result, sym, refl, ap, ◌∙◌, subst, inl, inr, arith, MatchResult}
+use Rattle.std.proofs.Common.{◌≡◌, ℕ, ◌+◌, Bool, true, false, cond, ◌||◌, eqb, ltb, List, [], ◌∷◌, length, Some, None, Ok, Err, Result, sym, refl, ap, ◌∙◌, subst, inl, inr, arith, MatchResult}
 use mathlib.Core.HLevel.{is_prop→PathP, Π_prop, ×_prop}
 use native.Mathlib.Bridge.{le_prop}
 use Rattle.std.proofs.lemmas.Bool.{cases_Bool}
@@ -12,7 +12,7 @@ use Rattle.table.proofs.Rooms.{listed_fits, room_most}
 use Rattle.rows.specs.Keys.{binary_key, unranked}
 use Rattle.rows.specs.declared.known_binary.KnownBinary.{KnownBinary}
 use Rattle.rows.proofs.SixKinds.{known_binaries}
-use Rattle.grouping.specs.Asked.{InRange, learnt, asked}
+use Rattle.grouping.specs.Asked.{InRange, learnt}
 use Rattle.grouping.specs.Binaries.{first_process, process_in, Ranged, offer_in}
 use Rattle.grouping.specs.declared.by_binary.ByBinary.{ByBinary}
 

@@ -1,6 +1,6 @@
 -- By binary: each binary has the process of its row.
 use Rattle.std.specs.Prelude.{◌≡◌, ℕ, ◌+◌, ◌<◌, ◌≤◌, Bool, true, false, cond, List, [], ◌∷◌, Some, None, Option, nat_eq, nat_lt, refl}
-use Rattle.std.proofs.Common.{ap, arith, ltb-true}
+use Rattle.std.proofs.Common.{arith, ltb-true}
 use Rattle.table.specs.Count.{pick}
 use Rattle.table.specs.Held.{of}
 use Rattle.rows.specs.Keys.{binary_key}

@@ -1,6 +1,6 @@
 -- By slot: every binary stands in process 2.
-use Rattle.std.specs.Prelude.{◌≡◌, ℕ, ◌≤◌, Some, None, Option}
-use Rattle.std.proofs.Common.{ap, arith}
+use Rattle.std.specs.Prelude.{◌≡◌, ℕ, Some, Option}
+use Rattle.std.proofs.Common.{arith}
 use Rattle.grouping.specs.Asked.{InRange}
 
 abbrev pub all_tests : ℕ

@@ -1,20 +1,18 @@
-use Rattle.std.proofs.Common.{◌≡◌, ℕ, ◌+◌, true, false, eqb, length, is_some, Some, None, Option, sym, refl, ap, ◌∙◌, arith}
+use Rattle.std.proofs.Common.{◌≡◌, ℕ, ◌+◌, true, false, length, is_some, None, Option, sym, refl, ap, ◌∙◌, arith}
 use Rattle.refusal.specs.Numbers.{number_of}
 use Rattle.table.specs.Held.{listed, room}
-use Rattle.grouping.specs.Asked.{asked, or_else, learnt}
+use Rattle.grouping.specs.Asked.{or_else}
 use Rattle.grouping.specs.Binaries.{process_in, offer_in}
 use Rattle.grouping.proofs.Learning.{ranged_after, next_ranged, process_put, unknown, offers, no_offer, same_groups}
 use Rattle.grouping.proofs.by_binary.learns.ByBinaryGrouping.learn.Goals as goal
 
-pub invariant-of-self : goal.invariant-of-self
-invariant-of-self c =
-    let was = c.args.self.now.known in (
-      c.insert.ensures.single c.args.self.now.one,
-      (
-        ranged_after c.insert.result (record { binary = c.args.binary; process = 2 + c.count.result }) was c.insert.new.self c.insert.ensures.after c.args.self.now.ranged (next_ranged was c.count.result c.count.ensures.all),
-        tt,
-      ),
-    )
+pub invariant_of-self : goal.invariant_of-self
+invariant_of-self c =
+    let was = c.args.self.now.known in
+    record {
+      one = c.insert.ensures.single c.args.self.now.one;
+      ranged = ranged_after c.insert.result (record { binary = c.args.binary; process = 2 + c.count.result }) was c.insert.new.self c.insert.ensures.after c.args.self.now.ranged (next_ranged was c.count.result c.count.ensures.all);
+    }
 
 not_known : (o : Option ℕ) → o ≡ None → is_some o ≡ true → ⊥
 not_known o e h = let w : true ≡ false = sym h ∙ ap is_some e in let z : ◌≡◌ {A = ℕ} 0 1 = cc in omega arith
@@ -23,7 +21,7 @@ pub returns-in-Ok : goal.returns-in-Ok
 returns-in-Ok c =
     let g = c.args.self.now in
     let b = c.args.binary in
-    let none = c.in-default.ensures.found in
+    let none = c.in_default.ensures.found in
     let no = unknown g.known b none in
     record {
       answer = ap (λ o. or_else o (offer_in (length (listed g.known)) (room g.known))) no ∙ offers g.known b none c.count.result c.count.ensures.all c.in-Ok.ensures.decides;
@@ -37,7 +35,7 @@ pub returns-in-Err : goal.returns-in-Err
 returns-in-Err c =
     let g = c.args.self.now in
     let b = c.args.binary in
-    let none = c.in-default.ensures.found in
+    let none = c.in_default.ensures.found in
     let no = unknown g.known b none in
     let stays = c.in-Err.ensures.after.1 in
     record {
