@@ -2,13 +2,13 @@
 use Rattle.std.proofs.Common.{◌≡◌, ℕ, Bool, List, [], ◌∷◌, get_or, Some, None, codes, Option, refl, ap, ◌∙◌}
 use lib.ListN.{get_or-map}
 use Rattle.trace.specs.declared.NamePattern.{NamePattern}
-use Rattle.trace.specs.declared.Arguments.TheVariants.{Absent, RunInstant, CancelInstant, TestBegin, RetryBegin, TestEnd, TestSlow, ScriptEnd, ScriptSlow, RunningCounts, ResultCounts, MetadataName, SortIndex}
+use Rattle.trace.specs.declared.Arguments.TheVariants.{Absent, RunInstant, CancelInstant, TestBegin, RetryBegin, TestEnd, TestSlow, ScriptEnd, ScriptSlow, RunningCounts, ResultCounts, SortIndex}
 use Rattle.trace.specs.Patterns.{pattern_named}
-use Rattle.trace.specs.Arguments.{flag_named, flagged, span_of, name_shown, arguments_named}
+use Rattle.trace.specs.Arguments.{flag_named, flagged, span_of, name_shown}
 use Rattle.outs.specs.Texts.{Text, lit, ◌+?◌}
 use Rattle.words.specs.Laws.{flag_shown, display_shown}
 use Rattle.words.proofs.Laws.{words_shown}
-use Rattle.shapes.specs.Shapes.{text_member, number_member, flag_member, display_member, test_members, run_instant_args, cancel_args, test_begin_args, retry_begin_args, test_end_args, test_slow_args, script_end_args, script_slow_args, running_counts_args, result_counts_args, metadata_name_args, sort_index_args, arguments_text}
+use Rattle.shapes.specs.Shapes.{text_member, number_member, flag_member, display_member, test_members, run_instant_args, cancel_args, test_begin_args, retry_begin_args, running_counts_args, result_counts_args, sort_index_args}
 use Rattle.shapes.specs.Laws.{arguments_shown, ArgumentsShown}
 
 then_none : (x : Text) → x +? None ≡ None

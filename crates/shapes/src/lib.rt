@@ -12,7 +12,7 @@ use trace::ARGUMENTS;
 use words::{display, flag, text};
 
 fn text_member<O: Out>(o: &mut O, book: &NameBook, key: &[u8], n: u64)
-    ensures { added o.old (text_member (book_text book.now) key.now n) o.new }
+    ensures { O.added o.old (text_member (book_text book.now) key.now n) o.new }
 {
     o.put(key);
     text(o, book, n);
@@ -20,21 +20,21 @@ fn text_member<O: Out>(o: &mut O, book: &NameBook, key: &[u8], n: u64)
 }
 
 fn number_member<O: Out>(o: &mut O, key: &[u8], n: u64)
-    ensures { added o.old (number_member key.now n) o.new }
+    ensures { O.added o.old (number_member key.now n) o.new }
 {
     o.put(key);
     number(o, n);
 }
 
 fn flag_member<O: Out>(o: &mut O, key: &[u8], n: u64)
-    ensures { added o.old (flag_member key.now n) o.new }
+    ensures { O.added o.old (flag_member key.now n) o.new }
 {
     o.put(key);
     flag(o, n);
 }
 
 fn display_member<O: Out>(o: &mut O, book: &NameBook, key: &[u8], code: u64, n: u64)
-    ensures { added o.old (display_member (book_text book.now) key.now code n) o.new }
+    ensures { O.added o.old (display_member (book_text book.now) key.now code n) o.new }
 {
     o.put(key);
     display(o, book, code, n);
@@ -43,14 +43,14 @@ fn display_member<O: Out>(o: &mut O, book: &NameBook, key: &[u8], code: u64, n: 
 
 // Which test it is.
 fn test_members<O: Out>(o: &mut O, book: &NameBook, binary: u64, test: u64)
-    ensures { added o.old (test_members (book_text book.now) binary test) o.new }
+    ensures { O.added o.old (test_members (book_text book.now) binary test) o.new }
 {
     text_member(o, book, b"\"binary_id\":\"", binary);
     text_member(o, book, b",\"test_name\":\"", test);
 }
 
 fn run_instant_args<O: Out>(o: &mut O, ns: &[u64; ARGUMENTS])
-    ensures { added o.old (run_instant_args ns.now) o.new }
+    ensures { O.added o.old (run_instant_args ns.now) o.new }
 {
     o.put(b",\"args\":{");
     number_member(o, b"\"running\":", ns[0]);
@@ -59,7 +59,7 @@ fn run_instant_args<O: Out>(o: &mut O, ns: &[u64; ARGUMENTS])
 }
 
 fn cancel_args<O: Out>(o: &mut O, book: &NameBook, ns: &[u64; ARGUMENTS])
-    ensures { added o.old (cancel_args (book_text book.now) ns.now) o.new }
+    ensures { O.added o.old (cancel_args (book_text book.now) ns.now) o.new }
 {
     o.put(b",\"args\":{");
     number_member(o, b"\"running\":", ns[0]);
@@ -69,7 +69,7 @@ fn cancel_args<O: Out>(o: &mut O, book: &NameBook, ns: &[u64; ARGUMENTS])
 }
 
 fn test_begin_args<O: Out>(o: &mut O, book: &NameBook, ns: &[u64; ARGUMENTS])
-    ensures { added o.old (test_begin_args (book_text book.now) ns.now) o.new }
+    ensures { O.added o.old (test_begin_args (book_text book.now) ns.now) o.new }
 {
     o.put(b",\"args\":{");
     test_members(o, book, ns[0], ns[1]);
@@ -77,7 +77,7 @@ fn test_begin_args<O: Out>(o: &mut O, book: &NameBook, ns: &[u64; ARGUMENTS])
 }
 
 fn retry_begin_args<O: Out>(o: &mut O, book: &NameBook, ns: &[u64; ARGUMENTS])
-    ensures { added o.old (retry_begin_args (book_text book.now) ns.now) o.new }
+    ensures { O.added o.old (retry_begin_args (book_text book.now) ns.now) o.new }
 {
     o.put(b",\"args\":{");
     test_members(o, book, ns[0], ns[1]);
@@ -87,7 +87,7 @@ fn retry_begin_args<O: Out>(o: &mut O, book: &NameBook, ns: &[u64; ARGUMENTS])
 }
 
 fn test_end_args<O: Out>(o: &mut O, book: &NameBook, ns: &[u64; ARGUMENTS])
-    ensures { added o.old (test_end_args (book_text book.now) ns.now) o.new }
+    ensures { O.added o.old (test_end_args (book_text book.now) ns.now) o.new }
 {
     o.put(b",\"args\":{");
     test_members(o, book, ns[0], ns[1]);
@@ -98,7 +98,7 @@ fn test_end_args<O: Out>(o: &mut O, book: &NameBook, ns: &[u64; ARGUMENTS])
 }
 
 fn test_slow_args<O: Out>(o: &mut O, book: &NameBook, ns: &[u64; ARGUMENTS])
-    ensures { added o.old (test_slow_args (book_text book.now) ns.now) o.new }
+    ensures { O.added o.old (test_slow_args (book_text book.now) ns.now) o.new }
 {
     o.put(b",\"args\":{");
     test_members(o, book, ns[0], ns[1]);
@@ -108,7 +108,7 @@ fn test_slow_args<O: Out>(o: &mut O, book: &NameBook, ns: &[u64; ARGUMENTS])
 }
 
 fn script_end_args<O: Out>(o: &mut O, book: &NameBook, ns: &[u64; ARGUMENTS])
-    ensures { added o.old (script_end_args (book_text book.now) ns.now) o.new }
+    ensures { O.added o.old (script_end_args (book_text book.now) ns.now) o.new }
 {
     o.put(b",\"args\":{");
     text_member(o, book, b"\"script_id\":\"", ns[0]);
@@ -117,7 +117,7 @@ fn script_end_args<O: Out>(o: &mut O, book: &NameBook, ns: &[u64; ARGUMENTS])
 }
 
 fn script_slow_args<O: Out>(o: &mut O, book: &NameBook, ns: &[u64; ARGUMENTS])
-    ensures { added o.old (script_slow_args (book_text book.now) ns.now) o.new }
+    ensures { O.added o.old (script_slow_args (book_text book.now) ns.now) o.new }
 {
     o.put(b",\"args\":{");
     text_member(o, book, b"\"script_id\":\"", ns[0]);
@@ -126,7 +126,7 @@ fn script_slow_args<O: Out>(o: &mut O, book: &NameBook, ns: &[u64; ARGUMENTS])
 }
 
 fn running_counts_args<O: Out>(o: &mut O, ns: &[u64; ARGUMENTS])
-    ensures { added o.old (running_counts_args ns.now) o.new }
+    ensures { O.added o.old (running_counts_args ns.now) o.new }
 {
     o.put(b",\"args\":{");
     number_member(o, b"\"running_tests\":", ns[0]);
@@ -135,7 +135,7 @@ fn running_counts_args<O: Out>(o: &mut O, ns: &[u64; ARGUMENTS])
 }
 
 fn result_counts_args<O: Out>(o: &mut O, ns: &[u64; ARGUMENTS])
-    ensures { added o.old (result_counts_args ns.now) o.new }
+    ensures { O.added o.old (result_counts_args ns.now) o.new }
 {
     o.put(b",\"args\":{");
     number_member(o, b"\"passed\":", ns[0]);
@@ -145,7 +145,7 @@ fn result_counts_args<O: Out>(o: &mut O, ns: &[u64; ARGUMENTS])
 }
 
 fn metadata_name_args<O: Out>(o: &mut O, book: &NameBook, ns: &[u64; ARGUMENTS])
-    ensures { added o.old (metadata_name_args (book_text book.now) ns.now) o.new }
+    ensures { O.added o.old (metadata_name_args (book_text book.now) ns.now) o.new }
 {
     o.put(b",\"args\":{");
     display_member(o, book, b"\"name\":\"", ns[0], ns[1]);
@@ -153,7 +153,7 @@ fn metadata_name_args<O: Out>(o: &mut O, book: &NameBook, ns: &[u64; ARGUMENTS])
 }
 
 fn sort_index_args<O: Out>(o: &mut O, ns: &[u64; ARGUMENTS])
-    ensures { added o.old (sort_index_args ns.now) o.new }
+    ensures { O.added o.old (sort_index_args ns.now) o.new }
 {
     o.put(b",\"args\":{");
     number_member(o, b"\"sort_index\":", ns[0]);
@@ -162,7 +162,7 @@ fn sort_index_args<O: Out>(o: &mut O, ns: &[u64; ARGUMENTS])
 
 // The member args, by the kind of the arguments.
 pub fn arguments<O: Out>(o: &mut O, book: &NameBook, kind: u64, ns: &[u64; ARGUMENTS])
-    ensures { added o.old (arguments_text (book_text book.now) kind ns.now) o.new }
+    ensures { O.added o.old (arguments_text (book_text book.now) kind ns.now) o.new }
 {
     match kind {
         0 => {}

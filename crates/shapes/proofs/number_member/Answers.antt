@@ -3,4 +3,4 @@ use Rattle.shapes.proofs.number_member.Goals as goal
 pub returns : goal.returns
 returns g c =
     let o = g.O.Out in
-    o.join c.put.ensures c.number.ensures
+    o.join _ _ _ _ _ c.put.ensures c.number.ensures
