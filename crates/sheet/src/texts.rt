@@ -8,6 +8,7 @@ use crate::numbers::read_count;
 const LONGEST_TEXT: u32 = 255;
 
 // The texts of these lengths that stand in front of a line feed, if they do.
+#[tactic(auto, using(crate::proofs::Cuts::feed_stands))]
 fn cut_texts<'a>(bytes: &'a [u8], a: usize, b: usize) -> Option<(&'a [u8], &'a [u8])>
     requires { (a ≤ 255) × (b ≤ 255) }
     ensures { MatchOption result ((x y rest : List ℕ) → length x ≡ a → length y ≡ b → bytes.now ≢ x ++ (y ++ (10 ∷ rest))) (λ p. Cut a b bytes.now p.0.now p.1.now) }

@@ -1,6 +1,5 @@
-use Rattle.std.proofs.Common.{◌≡◌, ℕ, List, length, take, drop, pos, sym, ◌∙◌, subst, arith}
+use Rattle.std.proofs.Common.{ℕ, List, length, take, drop, pos, ◌∙◌, subst, arith}
 use Rattle.std.proofs.lemmas.List.{take_rest, length-drop}
-use Rattle.columns.specs.Column.{column_of}
 use Rattle.sheet.specs.Texts.{Cut}
 use Rattle.sheet.proofs.Shown.{at_width}
 use Rattle.sheet.proofs.Cuts.{first_length, second_length, texts_behind, texts_from, same_count, four, no_length}
