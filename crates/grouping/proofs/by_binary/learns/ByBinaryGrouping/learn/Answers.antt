@@ -1,4 +1,4 @@
-use Rattle.std.proofs.Common.{◌≡◌, ℕ, ◌+◌, true, false, length, is_some, None, Option, sym, refl, ap, ◌∙◌, arith}
+use Rattle.std.proofs.Common.{◌≡◌, ℕ, true, false, length, is_some, None, Option, sym, refl, ap, ◌∙◌, arith}
 use Rattle.refusal.specs.Numbers.{number_of}
 use Rattle.table.specs.Held.{listed, room}
 use Rattle.grouping.specs.Asked.{or_else}
@@ -11,7 +11,7 @@ invariant_of-self c =
     let was = c.args.self.now.known in
     record {
       one = c.insert.ensures.single c.args.self.now.one;
-      ranged = ranged_after c.insert.result (record { binary = c.args.binary; process = 2 + c.count.result }) was c.insert.new.self c.insert.ensures.after c.args.self.now.ranged (next_ranged was c.count.result c.count.ensures.all);
+      ranged = ranged_after c.insert.result _ was c.insert.new.self c.insert.ensures.after c.args.self.now.ranged (next_ranged was _ (omega arith));
     }
 
 not_known : (o : Option ℕ) → o ≡ None → is_some o ≡ true → ⊥
@@ -24,8 +24,8 @@ returns-in-Ok c =
     let none = c.in_default.ensures.found in
     let no = unknown g.known b none in
     record {
-      answer = ap (λ o. or_else o (offer_in (length (listed g.known)) (room g.known))) no ∙ offers g.known b none c.count.result c.count.ensures.all c.in-Ok.ensures.decides;
-      after = λ k. ap (λ l. process_in l k) c.in-Ok.ensures.after ∙ process_put (record { binary = b; process = 2 + c.count.result }) (listed g.known) k;
+      answer = ap (λ o. or_else o (offer_in (length (listed g.known)) (room g.known))) no ∙ offers g.known b none _ (omega arith) c.in-Ok.ensures.decides;
+      after = λ k. ap (λ l. process_in l k) c.in-Ok.ensures.after ∙ process_put _ (listed g.known) k;
       known = λ h. elim (not_known (process_in (listed g.known) b) no h) [ ];
       labels = λ _ _ _. refl;
       displays = λ _ _. refl;
