@@ -5,70 +5,54 @@ ghost use Rattle.std.specs.Prelude.{◌≡◌};
 ghost use Rattle.refusal.specs.Numbers.{number_of, layer_of, layer_number};
 
 // Why a sheet, an event or a buffer was refused.
-#[derive(Clone, Copy, PartialEq, Eq)]
+#[derive(Clone, Copy, Debug, PartialEq, Eq)]
 pub enum Refusal {
     // the sheet ends inside a line
-    ShortLine,
+    ShortLine = 1,
     // a line begins with no kind word
-    UnknownKind,
+    UnknownKind = 2,
     // a number is malformed, out of range, or not 0 where unused
-    BadNumber,
+    BadNumber = 3,
     // a text or its length breaks the rules, or the line does not follow in full
-    BadText,
+    BadText = 4,
     // a test is slow, failed or finished that does not run
-    MissingTestStart,
+    MissingTestStart = 5,
     // a setup script is slow or finished that does not run
-    MissingScriptStart,
+    MissingScriptStart = 6,
     // a stress sub-run is finished and none runs
-    MissingStressSubRunStart,
+    MissingStressSubRunStart = 7,
     // the run bar is in a state in which the event is not taken
-    WrongBarState,
+    WrongBarState = 8,
     // what starts runs already, or its place is taken
-    StartClash,
+    StartClash = 9,
     // the run finishes while something runs
-    StillRunning,
+    StillRunning = 10,
     // a new text finds no entry or no bytes in the name book
-    BookFull,
+    BookFull = 11,
     // a new row finds no place, or the grouping has no process to offer
-    NoPlace,
+    NoPlace = 12,
     // a count or the arrow numbers are used up
-    CountExhausted,
+    CountExhausted = 13,
     // the sink has too few free places
-    SinkFull,
+    SinkFull = 14,
     // a code or a book number is unknown, or the output is too small
-    Unwritable,
+    Unwritable = 15,
 }
 
 // Which part of the product refuses.
-#[derive(Clone, Copy, PartialEq, Eq)]
+#[derive(Clone, Copy, Debug, PartialEq, Eq)]
 pub enum Layer {
-    Reader,
-    Step,
-    Storage,
-    Writer,
+    Reader = 1,
+    Step = 2,
+    Storage = 3,
+    Writer = 4,
 }
 
 impl Refusal {
     pub fn number(self) -> u32
         ensures { result ≡ number_of self }
     {
-        match self {
-            Refusal::ShortLine => 1,
-            Refusal::UnknownKind => 2,
-            Refusal::BadNumber => 3,
-            Refusal::BadText => 4,
-            Refusal::MissingTestStart => 5,
-            Refusal::MissingScriptStart => 6,
-            Refusal::MissingStressSubRunStart => 7,
-            Refusal::WrongBarState => 8,
-            Refusal::StartClash => 9,
-            Refusal::StillRunning => 10,
-            Refusal::BookFull => 11,
-            Refusal::NoPlace => 12,
-            Refusal::CountExhausted => 13,
-            Refusal::SinkFull => 14,
-            Refusal::Unwritable => 15,
-        }
+        self as u32 // 1 to 15
     }
 
     pub fn layer(self) -> Layer
@@ -94,11 +78,6 @@ impl Layer {
     pub fn number(self) -> u32
         ensures { result ≡ layer_number self }
     {
-        match self {
-            Layer::Reader => 1,
-            Layer::Step => 2,
-            Layer::Storage => 3,
-            Layer::Writer => 4,
-        }
+        self as u32 // 1 to 4
     }
 }
