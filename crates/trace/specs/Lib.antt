@@ -1,3 +1,4 @@
+pub mod Kinds
 pub mod Equal
 pub mod Phases
 pub mod Categories

@@ -1,9 +1,15 @@
 // The trace events that a converter writes.
 
 ghost use Rattle.std.specs.Prelude.{◌≡◌, ◌+◌, pos};
+ghost use Rattle.trace.specs.declared.Category.TheVariants.{Test, Run};
+ghost use Rattle.trace.specs.declared.Label.TheVariants.{Fixed};
+ghost use Rattle.trace.specs.declared.Phase.TheVariants.{Counter, Instant};
+ghost use Rattle.trace.specs.declared.Word.TheVariants.{Retry};
+ghost use Rattle.trace.specs.declared.Arguments.TheVariants.{Absent};
 ghost use Rattle.trace.specs.Events.{coded, begin_event, end_event, concurrency_event, results_event, cancel_event, paused_event, continued_event, slow_test_event, slow_script_event, flow_start_event, flow_finish_event, process_name_event, process_sort_event, thread_name_event, thread_sort_event, metadata_event};
 
-use super::{Arguments, Category, Label, Lane, Moment, NamePattern, Phase, Span, TraceEvent, Word};
+use super::{Arguments, Category, Label, Lane, NamePattern, Phase, TraceEvent, Word};
+use events::event::{TimeTaken, Timestamp};
 
 // The lane of the counters.
 const COUNTERS: Lane = (0, 0);
@@ -11,12 +17,16 @@ const COUNTERS: Lane = (0, 0);
 // The lane of the run.
 const RUN: Lane = (0, 1);
 
+// What names and sorts has no time.
+const NO_TIME: Timestamp = Timestamp { micros: 0 };
+
 // The event with these codes; an arrow counts from 1, and 0 is none.
+#[tactic(auto, unfolding(crate::specs::Events::coded))]
 fn coded_event(
     phase: Phase,
     category: Category,
     label: Label,
-    at: Moment,
+    at: Timestamp,
     lane: Lane,
     arrow: u64,
     arguments: Arguments,
@@ -26,24 +36,39 @@ fn coded_event(
     TraceEvent {
         phase: phase.letter(),
         category: category.code(),
-        label: label.kind(),
+        label: label.kind().code(),
         first: label.first(),
         second: label.second(),
         time: at.micros,
-        process: lane.0 as u64,
-        lane: lane.1 as u64,
+        process: u64::from(lane.0),
+        lane: u64::from(lane.1),
         arrow,
-        kind: arguments.kind(),
+        kind: arguments.kind().code(),
         arguments: arguments.numbers(),
     }
 }
 
+// An event that is called by a fixed word and has no arrow.
+fn fixed(
+    phase: Phase,
+    category: Category,
+    word: Word,
+    at: Timestamp,
+    lane: Lane,
+    arguments: Arguments,
+) -> TraceEvent
+    ensures { result ≡ coded phase category (Fixed word) at.micros lane 0 arguments }
+{
+    coded_event(phase, category, Label::Fixed(word), at, lane, 0, arguments)
+}
+
 // A bar opens on a lane.
+#[tactic(auto, unfolding(crate::specs::Events::begin_event))]
 pub fn begin(
     lane: Lane,
     label: Label,
     category: Category,
-    at: Moment,
+    at: Timestamp,
     arguments: Arguments,
 ) -> TraceEvent
     ensures { result ≡ begin_event lane label category at arguments }
@@ -52,11 +77,12 @@ pub fn begin(
 }
 
 // A bar closes on a lane.
+#[tactic(auto, unfolding(crate::specs::Events::end_event))]
 pub fn end(
     lane: Lane,
     label: Label,
     category: Category,
-    at: Moment,
+    at: Timestamp,
     arguments: Arguments,
 ) -> TraceEvent
     ensures { result ≡ end_event lane label category at arguments }
@@ -64,181 +90,170 @@ pub fn end(
     coded_event(Phase::End, category, label, at, lane, 0, arguments)
 }
 
+// A counter of the run.
+fn counter(word: Word, at: Timestamp, counts: Arguments) -> TraceEvent
+    ensures { result ≡ coded Counter Run (Fixed word) at.micros (0, 0) 0 counts }
+{
+    fixed(Phase::Counter, Category::Run, word, at, COUNTERS, counts)
+}
+
 // How many tests and setup scripts run.
-pub fn concurrency_counter(at: Moment, tests: u32, scripts: u32) -> TraceEvent
+#[tactic(auto, unfolding(crate::specs::Events::concurrency_event))]
+pub fn concurrency_counter(at: Timestamp, tests: u32, scripts: u32) -> TraceEvent
     ensures { result ≡ concurrency_event at tests scripts }
 {
-    coded_event(
-        Phase::Counter,
-        Category::Run,
-        Label::Fixed(Word::Concurrency),
-        at,
-        COUNTERS,
-        0,
-        Arguments::RunningCounts { tests, scripts },
-    )
+    let counts = Arguments::RunningCounts { tests, scripts };
+    counter(Word::Concurrency, at, counts)
 }
 
 // How many tests came out how.
-pub fn results_counter(at: Moment, passed: u32, flaky: u32, failed: u64) -> TraceEvent
+#[tactic(auto, unfolding(crate::specs::Events::results_event))]
+pub fn results_counter(at: Timestamp, passed: u32, flaky: u32, failed: u64) -> TraceEvent
     ensures { result ≡ results_event at passed flaky failed }
 {
-    coded_event(
-        Phase::Counter,
-        Category::Run,
-        Label::Fixed(Word::TestResults),
-        at,
-        COUNTERS,
-        0,
-        Arguments::ResultCounts {
-            passed,
-            flaky,
-            failed,
-        },
-    )
+    let counts = Arguments::ResultCounts {
+        passed,
+        flaky,
+        failed,
+    };
+    counter(Word::TestResults, at, counts)
+}
+
+// What happens to the run, on its lane.
+fn run_instant(word: Word, at: Timestamp, arguments: Arguments) -> TraceEvent
+    ensures { result ≡ coded Instant Run (Fixed word) at.micros (0, 1) 0 arguments }
+{
+    fixed(Phase::Instant, Category::Run, word, at, RUN, arguments)
 }
 
 // The run is cancelled, for a reason of the book.
-pub fn cancel_instant(at: Moment, running: u32, scripts: u32, reason: u32) -> TraceEvent
+#[tactic(auto, unfolding(crate::specs::Events::cancel_event))]
+pub fn cancel_instant(at: Timestamp, running: u32, scripts: u32, reason: u32) -> TraceEvent
     ensures { result ≡ cancel_event at running scripts reason }
 {
-    coded_event(
-        Phase::Instant,
-        Category::Run,
-        Label::Fixed(Word::Cancel),
-        at,
-        RUN,
-        0,
-        Arguments::CancelInstant {
-            running,
-            scripts,
-            reason,
-        },
-    )
+    let cancelled = Arguments::CancelInstant {
+        running,
+        scripts,
+        reason,
+    };
+    run_instant(Word::Cancel, at, cancelled)
 }
 
-pub fn paused_instant(at: Moment, running: u32, scripts: u32) -> TraceEvent
+#[tactic(auto, unfolding(crate::specs::Events::paused_event))]
+pub fn paused_instant(at: Timestamp, running: u32, scripts: u32) -> TraceEvent
     ensures { result ≡ paused_event at running scripts }
 {
-    coded_event(
-        Phase::Instant,
-        Category::Run,
-        Label::Fixed(Word::Paused),
-        at,
-        RUN,
-        0,
-        Arguments::RunInstant { running, scripts },
-    )
+    run_instant(Word::Paused, at, Arguments::RunInstant { running, scripts })
 }
 
-pub fn continued_instant(at: Moment, running: u32, scripts: u32) -> TraceEvent
+#[tactic(auto, unfolding(crate::specs::Events::continued_event))]
+pub fn continued_instant(at: Timestamp, running: u32, scripts: u32) -> TraceEvent
     ensures { result ≡ continued_event at running scripts }
 {
-    coded_event(
-        Phase::Instant,
-        Category::Run,
-        Label::Fixed(Word::Continued),
+    run_instant(
+        Word::Continued,
         at,
-        RUN,
-        0,
         Arguments::RunInstant { running, scripts },
     )
 }
 
 // A test is slow, on its lane.
+#[tactic(auto, unfolding(crate::specs::Events::slow_test_event))]
 pub fn slow_test(
     lane: Lane,
-    at: Moment,
+    at: Timestamp,
     binary: u32,
     test: u32,
-    span: Span,
+    span: TimeTaken,
     terminate: bool,
     attempt: u32,
 ) -> TraceEvent
     ensures { result ≡ slow_test_event lane at binary test span terminate attempt }
 {
-    coded_event(
-        Phase::Instant,
-        Category::Test,
-        Label::Fixed(Word::Slow),
-        at,
-        lane,
-        0,
-        Arguments::TestSlow {
-            binary,
-            test,
-            span,
-            terminate,
-            attempt,
-        },
-    )
+    let slow = Arguments::TestSlow {
+        binary,
+        test,
+        span,
+        terminate,
+        attempt,
+    };
+    fixed(Phase::Instant, Category::Test, Word::Slow, at, lane, slow)
 }
 
 // A setup script is slow, on its lane.
-pub fn slow_script(lane: Lane, at: Moment, script: u32, span: Span, terminate: bool) -> TraceEvent
+#[tactic(auto, unfolding(crate::specs::Events::slow_script_event))]
+pub fn slow_script(
+    lane: Lane,
+    at: Timestamp,
+    script: u32,
+    span: TimeTaken,
+    terminate: bool,
+) -> TraceEvent
     ensures { result ≡ slow_script_event lane at script span terminate }
 {
-    coded_event(
+    let slow = Arguments::ScriptSlow {
+        script,
+        span,
+        terminate,
+    };
+    fixed(
         Phase::Instant,
         Category::SetupScript,
-        Label::Fixed(Word::Slow),
+        Word::Slow,
         at,
         lane,
-        0,
-        Arguments::ScriptSlow {
-            script,
-            span,
-            terminate,
-        },
+        slow,
+    )
+}
+
+// One end of an arrow, whose number is told by one more than itself.
+fn flow(phase: Phase, lane: Lane, at: Timestamp, arrow: u32) -> TraceEvent
+    ensures { result ≡ coded phase Test (Fixed Retry) at.micros lane (arrow + 1) Absent }
+{
+    let retry = Label::Fixed(Word::Retry);
+    coded_event(
+        phase,
+        Category::Test,
+        retry,
+        at,
+        lane,
+        u64::from(arrow) + 1,
+        Arguments::Absent,
     )
 }
 
 // An arrow starts at a failed attempt that is tried again.
-pub fn flow_start(lane: Lane, at: Moment, arrow: u32) -> TraceEvent
+#[tactic(auto, unfolding(crate::specs::Events::flow_start_event))]
+pub fn flow_start(lane: Lane, at: Timestamp, arrow: u32) -> TraceEvent
     ensures { result ≡ flow_start_event lane at arrow }
 {
-    coded_event(
-        Phase::FlowStart,
-        Category::Test,
-        Label::Fixed(Word::Retry),
-        at,
-        lane,
-        arrow as u64 + 1,
-        Arguments::Absent,
-    )
+    flow(Phase::FlowStart, lane, at, arrow)
 }
 
 // The arrow finishes at the next attempt.
-pub fn flow_finish(lane: Lane, at: Moment, arrow: u32) -> TraceEvent
+#[tactic(auto, unfolding(crate::specs::Events::flow_finish_event))]
+pub fn flow_finish(lane: Lane, at: Timestamp, arrow: u32) -> TraceEvent
     ensures { result ≡ flow_finish_event lane at arrow }
 {
-    coded_event(
-        Phase::FlowFinish,
-        Category::Test,
-        Label::Fixed(Word::Retry),
-        at,
-        lane,
-        arrow as u64 + 1,
-        Arguments::Absent,
-    )
+    flow(Phase::FlowFinish, lane, at, arrow)
 }
 
-// What names and sorts has no time.
+#[tactic(auto, unfolding(crate::specs::Events::metadata_event))]
 fn metadata(word: Word, lane: Lane, arguments: Arguments) -> TraceEvent
     ensures { result ≡ metadata_event word lane arguments }
 {
-    coded_event(
+    fixed(
         Phase::Metadata,
         Category::Empty,
-        Label::Fixed(word),
-        Moment { micros: 0 },
+        word,
+        NO_TIME,
         lane,
-        0,
         arguments,
     )
 }
 
 // What a process is called.
+#[tactic(auto, unfolding(crate::specs::Events::process_name_event))]
 pub fn process_name(process: u32, pattern: NamePattern) -> TraceEvent
     ensures { result ≡ process_name_event process pattern }
 {
@@ -250,6 +265,7 @@ pub fn process_name(process: u32, pattern: NamePattern) -> TraceEvent
 }
 
 // Where a process is sorted: by its number.
+#[tactic(auto, unfolding(crate::specs::Events::process_sort_event))]
 pub fn process_sort_index(process: u32) -> TraceEvent
     ensures { result ≡ process_sort_event process }
 {
@@ -261,6 +277,7 @@ pub fn process_sort_index(process: u32) -> TraceEvent
 }
 
 // What a lane is called.
+#[tactic(auto, unfolding(crate::specs::Events::thread_name_event))]
 pub fn thread_name(lane: Lane, pattern: NamePattern) -> TraceEvent
     ensures { result ≡ thread_name_event lane pattern }
 {
@@ -268,6 +285,7 @@ pub fn thread_name(lane: Lane, pattern: NamePattern) -> TraceEvent
 }
 
 // Where a lane is sorted in its process: by its number.
+#[tactic(auto, unfolding(crate::specs::Events::thread_sort_event))]
 pub fn thread_sort_index(lane: Lane) -> TraceEvent
     ensures { result ≡ thread_sort_event lane }
 {
