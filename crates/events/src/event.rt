@@ -1,11 +1,11 @@
 // Microseconds since the start of 1970, negative before it.
-#[derive(Clone, Copy, PartialEq, Eq)]
+#[derive(Clone, Copy, Debug, PartialEq, Eq)]
 pub struct Timestamp {
     pub micros: i64,
 }
 
 // How long something took.
-#[derive(Clone, Copy, PartialEq, Eq)]
+#[derive(Clone, Copy, Debug, PartialEq, Eq)]
 pub struct TimeTaken {
     pub seconds: u32,
     pub nanoseconds: u32,
