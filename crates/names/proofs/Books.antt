@@ -7,9 +7,9 @@ use Rattle.names.specs.declared.book.NameBook.{NameBook}
 use Rattle.names.proofs.Parts.{length_listed}
 
 -- its count is the number of its texts
-pub count_of : (b : NameBook) → length (texts b) ≡ b.pages.count
+pub count_of : (b : NameBook) → length (texts b) ≡ b.count
 unfolding shelf_of
-count_of b = length_listed b.pages.entries.now b.pages.bytes.now b.pages.count b.kept.0
+count_of b = length_listed b.entries.now b.bytes.now b.count b.kept.0
 
 -- no text of a book stands twice
 pub apart_of : (b : NameBook) → Apart (texts b)

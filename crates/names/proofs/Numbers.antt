@@ -1,14 +1,18 @@
 -- The laws of texts by number: lists first, as nothing here knows of a book.
-use Rattle.std.proofs.Common.{◌≡◌, ℕ, suc, ◌+◌, ◌-◌, ◌<◌, ◌≤◌, true, false, cond, ◌||◌, List, [], ◌∷◌, ◌++◌, length, get_or, Some, None, sym, refl, ap, ◌∙◌, inl, inr, arith}
+use Rattle.std.proofs.Common.{◌≡◌, ℕ, suc, ◌+◌, ◌-◌, ◌<◌, ◌≤◌, Bool, true, false, cond, ◌||◌, List, [], ◌∷◌, ◌++◌, length, get_or, Some, None, sym, refl, ap, ◌∙◌, inl, inr, Decides, arith}
 use Rattle.std.specs.Str.{bytes_eq}
 use Rattle.std.proofs.lemmas.Slice.Eq.{bytes_eq-Decides}
-use Rattle.std.proofs.lemmas.Bool.{cases_Bool, cases_lt}
+use Rattle.std.proofs.lemmas.Bool.{both_ways, cases_Bool, cases_lt}
 use Rattle.std.proofs.lemmas.Bool.Decides.{nat_tests}
 use Rattle.std.proofs.lemmas.List.{length_push, get_or_append_left}
 use Rattle.names.specs.Texts.{Text, has, number_in, found, text_at, distinct, Apart}
 
 pub same_is : (a b : Text) → bytes_eq a b ≡ true → a ≡ b
 same_is a b = (bytes_eq-Decides a b).0
+
+-- two texts that `==` tells apart
+pub differ : (a b : Text) (r : Bool) → Decides r (a ≡ b) → r ≡ false → bytes_eq a b ≡ false
+differ a b r d e = elim (cases_Bool (bytes_eq a b)) [ inl y ↦ absurd (both_ways r e (d.1 (same_is a b y))) | inr n ↦ n ]
 
 pub same_self : (a : Text) → bytes_eq a a ≡ true
 same_self a = (bytes_eq-Decides a a).1 refl

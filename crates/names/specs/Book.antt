@@ -9,7 +9,7 @@ use Rattle.names.specs.declared.book.Shown.{Shown}
 use Rattle.names.specs.declared.book.Shown.TheVariants.{BookText, FixedWord}
 
 unfoldable pub shelf_of : NameBook → Shelf
-shelf_of b = shelf_in b.pages
+shelf_of b = shelf_in b.entries.now b.bytes.now b.count b.used
 
 -- how many texts there are, and how much is free
 abbrev pub space_of : Shelf → Space

@@ -2,8 +2,7 @@
 use Rattle.std.specs.Prelude.{ℕ, ◌+◌, ◌-◌, ◌≤◌, max, List, [], ◌∷◌, map, length, take, drop}
 use Rattle.names.specs.Texts.{Text, Apart}
 use Rattle.names.specs.Shelf.{Shelf, most}
-use Rattle.names.specs.declared.pages.Entry.{Entry}
-use Rattle.names.specs.declared.pages.Pages.{Pages}
+use Rattle.names.specs.declared.book.Entry.{Entry}
 
 -- the text of an entry
 abbrev pub part_of : List ℕ → Entry → Text
@@ -18,9 +17,9 @@ abbrev pub reach : List Entry → ℕ
 reach [] = 0
 reach (e ∷ es) = max (e.start + e.len) (reach es)
 
-abbrev pub shelf_in : Pages → Shelf
-shelf_in p = record { texts = listed p.entries.now p.bytes.now p.count; entries = length p.entries.now - p.count; bytes = length p.bytes.now - p.used }
+abbrev pub shelf_in : List Entry → List ℕ → ℕ → ℕ → Shelf
+shelf_in entries bytes count used = record { texts = listed entries bytes count; entries = length entries - count; bytes = length bytes - used }
 
 -- every text lies in the used bytes, and no text stands twice
-abbrev pub Kept : Pages → Type 0
-Kept p = (p.count ≤ length p.entries.now) × (p.count ≤ most) × (p.used ≤ length p.bytes.now) × (reach (take p.count p.entries.now) ≤ p.used) × Apart (shelf_in p).texts
+abbrev pub Kept : List Entry → List ℕ → ℕ → ℕ → Type 0
+Kept entries bytes count used = (count ≤ length entries) × (count ≤ most) × (used ≤ length bytes) × (reach (take count entries) ≤ used) × Apart (listed entries bytes count)

@@ -4,10 +4,8 @@
 ghost use Rattle.names.specs.Laws.{NamesStand};
 
 mod book;
-mod pages;
 
-pub use book::{NameBook, Shown};
-pub use pages::Entry;
+pub use book::{Entry, NameBook, Shown};
 
 // The laws of the name book, for the crates above.
 pub fn names_stand()

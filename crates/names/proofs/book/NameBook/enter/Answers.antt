@@ -10,7 +10,7 @@ unfolding shelf_of
 add-requires c =
     let b = c.args.self.now in
     let q = planned_past (shelf_of b) c.args.text.now c.in_ok-number.number (sym c.in_ok-number.ensures) (omega (arith, count_of b)) in
-    record { kept = b.kept; new = q.0; room = (omega arith, omega (arith, count_of b), omega arith) }
+    record { new = q.0; room = (omega arith, omega (arith, count_of b), omega arith) }
 
 pub returns-then-number-self : goal.returns-then-number-self
 unfolding shelf_of
@@ -19,7 +19,7 @@ returns-then-number-self c =
     let q = planned_past (shelf_of b) c.args.text.now c.in_ok-number.number (sym c.in_ok-number.ensures) (omega (arith, count_of b)) in
     record {
       answer = c.in_ok-number.ensures;
-      after = c.add.ensures.after ∙ sym (entered_new (shelf_of b) c.args.text.now q.0);
+      after = c.add.ensures ∙ sym (entered_new (shelf_of b) c.args.text.now q.0);
       known = λ h. absurd (both_ways _ q.0 h);
     }
 

@@ -1,7 +1,9 @@
 use Rattle.std.proofs.Common.{length, Ok, sym, ap, ◌∙◌}
 use Rattle.names.specs.Shelf.{next_number, entered, planned_one}
 use Rattle.names.specs.Book.{shelf_of}
-use Rattle.names.proofs.Numbers.{found_some, same_is}
+use Rattle.std.proofs.lemmas.Bool.Decides.{Decides-eqb}
+use Rattle.std.proofs.lemmas.Slice.Eq.{slice_eq-Decides}
+use Rattle.names.proofs.Numbers.{found_some, differ}
 use Rattle.names.proofs.Shelves.{planned_ok, planned_known, planned_new, has_entered, number_entered, has_kept, number_kept, new_kept}
 use Rattle.names.proofs.book.NameBook.plan_second.Goals as goal
 
@@ -20,11 +22,11 @@ returns-in-None c =
     let b = c.args.b.now in
     c.next.ensures
     ∙ (ap (λ p. next_number p.count p.entries p.bytes (length b)) c.space_with.ensures
-    ∙ sym (planned_new (entered s a) b (new_kept s a b c.in-None.ensures.stands (sym c.if-same_text.ensures))))
+    ∙ sym (planned_new (entered s a) b (new_kept s a b c.in-None.ensures.stands (differ a b c.eq.result (slice_eq-Decides Decides-eqb a b c.eq.result c.eq.ensures) c.if-eq.false))))
 
-pub returns-then-same_text : goal.returns-then-same_text
-returns-then-same_text c =
+pub returns-then-eq : goal.returns-then-eq
+returns-then-eq c =
     let s = shelf_of c.args.self.now in
     let a = c.args.a.now in
-    let e = same_is _ _ (sym c.if-same_text.ensures) in
+    let e = (slice_eq-Decides Decides-eqb a c.args.b.now c.eq.result c.eq.ensures).0 c.if-eq.true in
     ap Ok ((planned_ok s a _ c.requires).1 ∙ sym (number_entered s a)) ∙ (sym (planned_known (entered s a) a (has_entered s a)) ∙ ap (planned_one (entered s a)) e)

@@ -1,6 +1,6 @@
 use Rattle.std.proofs.Common.{◌≡◌, ◌+◌, ◌-◌, ◌++◌, length, take, drop, ap, ◌∙◌, ap₂, arith}
 use Rattle.std.proofs.lemmas.List.{drop-drop}
-use Rattle.names.proofs.pages.moves.put_text.Goals as goal
+use Rattle.names.proofs.book.put_text.Goals as goal
 
 pub returns : goal.returns
 returns c =
