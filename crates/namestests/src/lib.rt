@@ -5,67 +5,17 @@ ghost use Rattle.std.specs.Prelude.{◌≡◌, MatchResult};
 ghost use Rattle.names.specs.Book.{shelf_of};
 ghost use Rattle.names.specs.Shelf.{entered, planned};
 
-use names::{NameBook, Shown};
+use names::NameBook;
 use refusal::Refusal;
-
-// Whether a text got this number.
-pub fn gives(answer: Result<u32, Refusal>, number: u32) -> bool {
-    match answer {
-        Ok(n) => n == number,
-        Err(_) => false,
-    }
-}
-
-// Whether a text was refused because the book is full.
-pub fn is_full(answer: Result<u32, Refusal>) -> bool {
-    match answer {
-        Ok(_) => false,
-        Err(e) => e.number() == 11,
-    }
-}
-
-// Whether a plan told these two numbers.
-pub fn tells(plan: Result<(u32, u32), Refusal>, first: u32, second: u32) -> bool {
-    match plan {
-        Ok((m, n)) => m == first && n == second,
-        Err(_) => false,
-    }
-}
-
-// Whether a plan told that the book is full.
-pub fn tells_full(plan: Result<(u32, u32), Refusal>) -> bool {
-    match plan {
-        Ok(_) => false,
-        Err(e) => e.number() == 11,
-    }
-}
-
-// Whether a text that was read is this one.
-pub fn reads(text: Option<&[u8]>, wanted: &[u8]) -> bool {
-    match text {
-        Some(t) => t == wanted,
-        None => false,
-    }
-}
 
 // Whether a text has this number in the book, and stands at it.
 pub fn stands(book: &NameBook, text: &[u8], number: u32) -> bool {
-    book.find(text) == Some(number) && reads(book.text(number), text)
+    book.find(text) == Some(number) && book.text(number) == Some(text)
 }
 
 // Whether a book has so many texts, free entries and free bytes.
 pub fn holds(book: &NameBook, count: usize, entries: usize, bytes: usize) -> bool {
     book.count() == count && book.free_entries() == entries && book.free_bytes() == bytes
-}
-
-// Whether the word to be shown is this one.
-pub fn shows<'m>(book: &'m NameBook, words: &'m [u8], which: Shown, wanted: &[u8]) -> bool {
-    reads(book.word_from(words, which), wanted)
-}
-
-// Whether there is no such word to be shown.
-pub fn hides<'m>(book: &'m NameBook, words: &'m [u8], which: Shown) -> bool {
-    book.word_from(words, which).is_none()
 }
 
 // Enters both texts or neither: after the plan no entering fails, as the book's contracts tell.
@@ -82,7 +32,7 @@ pub fn enter_both(book: &mut NameBook, a: &[u8], b: &[u8]) -> Result<(u32, u32),
 // Enters the numbers below `count` as texts of four bytes, and says whether each got the next number.
 pub fn enter_many(book: &mut NameBook, count: u32) -> bool {
     for i in 0..count {
-        if !gives(book.enter(&i.to_le_bytes()), i + 1) {
+        if book.enter(&i.to_le_bytes()) != Ok(i + 1) {
             return false;
         }
     }
@@ -92,12 +42,12 @@ pub fn enter_many(book: &mut NameBook, count: u32) -> bool {
 #[cfg(test)]
 mod tests {
     use super::*;
-    use names::Entry;
+    use names::{Entry, Shown};
 
     fn takes_nothing(book: &mut NameBook) -> bool {
-        is_full(book.enter(b"a"))
-            && is_full(book.enter(b""))
-            && tells_full(book.plan(b"a", b"a"))
+        book.enter(b"a") == Err(Refusal::BookFull)
+            && book.enter(b"") == Err(Refusal::BookFull)
+            && book.plan(b"a", b"a") == Err(Refusal::BookFull)
             && book.find(b"a").is_none()
             && holds(book, 0, 0, 8)
     }
@@ -110,9 +60,9 @@ mod tests {
     }
 
     fn takes_empty(book: &mut NameBook) -> bool {
-        is_full(book.enter(b"a"))
-            && gives(book.enter(b""), 1)
-            && gives(book.enter(b""), 1)
+        book.enter(b"a") == Err(Refusal::BookFull)
+            && book.enter(b"") == Ok(1)
+            && book.enter(b"") == Ok(1)
             && stands(book, b"", 1)
             && holds(book, 1, 1, 0)
     }
@@ -125,13 +75,13 @@ mod tests {
     }
 
     fn takes_one(book: &mut NameBook) -> bool {
-        gives(book.enter(b"run"), 1)
-            && is_full(book.enter(b"b"))
-            && gives(book.enter(b"run"), 1)
+        book.enter(b"run") == Ok(1)
+            && book.enter(b"b") == Err(Refusal::BookFull)
+            && book.enter(b"run") == Ok(1)
             && stands(book, b"run", 1)
             && holds(book, 1, 0, 5)
-            && tells(book.plan(b"run", b"run"), 1, 1)
-            && tells_full(book.plan(b"run", b"b"))
+            && book.plan(b"run", b"run") == Ok((1, 1))
+            && book.plan(b"run", b"b") == Err(Refusal::BookFull)
     }
 
     #[test]
@@ -142,14 +92,14 @@ mod tests {
     }
 
     fn takes_three(book: &mut NameBook) -> bool {
-        gives(book.enter(b"ab"), 1)
-            && gives(book.enter(b"abc"), 2)
-            && is_full(book.enter(b"xyz"))
+        book.enter(b"ab") == Ok(1)
+            && book.enter(b"abc") == Ok(2)
+            && book.enter(b"xyz") == Err(Refusal::BookFull)
             && holds(book, 2, 1, 2)
-            && gives(book.enter(b"bc"), 3)
+            && book.enter(b"bc") == Ok(3)
             && holds(book, 3, 0, 0)
-            && is_full(book.enter(b""))
-            && gives(book.enter(b"abc"), 2)
+            && book.enter(b"") == Err(Refusal::BookFull)
+            && book.enter(b"abc") == Ok(2)
             && stands(book, b"ab", 1)
             && stands(book, b"abc", 2)
             && stands(book, b"bc", 3)
@@ -164,7 +114,7 @@ mod tests {
     }
 
     fn reads_one(book: &mut NameBook) -> bool {
-        gives(book.enter(b"a"), 1)
+        book.enter(b"a") == Ok(1)
             && book.text(0).is_none()
             && book.text(2).is_none()
             && book.text(4294967295).is_none()
@@ -178,10 +128,10 @@ mod tests {
     }
 
     fn takes_long(book: &mut NameBook) -> bool {
-        gives(book.enter(&[7u8; 255]), 1)
-            && gives(book.enter(&[7u8; 256]), 2)
-            && is_full(book.enter(&[7u8; 301]))
-            && gives(book.enter(&[7u8; 300]), 3)
+        book.enter(&[7u8; 255]) == Ok(1)
+            && book.enter(&[7u8; 256]) == Ok(2)
+            && book.enter(&[7u8; 301]) == Err(Refusal::BookFull)
+            && book.enter(&[7u8; 300]) == Ok(3)
             && stands(book, &[7u8; 255], 1)
             && stands(book, &[7u8; 300], 3)
             && holds(book, 3, 0, 0)
@@ -195,19 +145,19 @@ mod tests {
     }
 
     fn plans_two(book: &mut NameBook) -> bool {
-        tells(book.plan(b"ab", b"ab"), 1, 1)
-            && tells(book.plan(b"ab", b"cd"), 1, 2)
-            && tells_full(book.plan(b"ab", b"cde"))
-            && tells_full(book.plan(b"abcde", b"a"))
-            && gives(book.plan_one(b"abcd"), 1)
-            && is_full(book.plan_one(b"abcde"))
+        book.plan(b"ab", b"ab") == Ok((1, 1))
+            && book.plan(b"ab", b"cd") == Ok((1, 2))
+            && book.plan(b"ab", b"cde") == Err(Refusal::BookFull)
+            && book.plan(b"abcde", b"a") == Err(Refusal::BookFull)
+            && book.plan_one(b"abcd") == Ok(1)
+            && book.plan_one(b"abcde") == Err(Refusal::BookFull)
             && holds(book, 0, 2, 4)
-            && gives(book.enter(b"ab"), 1)
-            && tells(book.plan(b"cd", b"ab"), 2, 1)
-            && tells(book.plan(b"ab", b"cd"), 1, 2)
-            && tells_full(enter_both(book, b"cd", b""))
+            && book.enter(b"ab") == Ok(1)
+            && book.plan(b"cd", b"ab") == Ok((2, 1))
+            && book.plan(b"ab", b"cd") == Ok((1, 2))
+            && enter_both(book, b"cd", b"") == Err(Refusal::BookFull)
             && holds(book, 1, 1, 2)
-            && tells(enter_both(book, b"cd", b"ab"), 2, 1)
+            && enter_both(book, b"cd", b"ab") == Ok((2, 1))
     }
 
     #[test]
@@ -219,18 +169,18 @@ mod tests {
 
     fn shows_words(book: &mut NameBook) -> bool {
         let words = b"runstress";
-        gives(book.enter(b"a\"b"), 1)
-            && shows(book, words, Shown::BookText(1), b"a\"b")
-            && shows(
-                book,
-                words,
-                Shown::FixedWord { start: 3, len: 6 },
-                b"stress",
-            )
-            && shows(book, words, Shown::FixedWord { start: 9, len: 0 }, b"")
-            && hides(book, words, Shown::FixedWord { start: 4, len: 6 })
-            && hides(book, words, Shown::FixedWord { start: 10, len: 0 })
-            && hides(book, words, Shown::BookText(2))
+        book.enter(b"a\"b") == Ok(1)
+            && book.word_from(words, Shown::BookText(1)) == Some(b"a\"b".as_slice())
+            && book.word_from(words, Shown::FixedWord { start: 3, len: 6 })
+                == Some(b"stress".as_slice())
+            && book.word_from(words, Shown::FixedWord { start: 9, len: 0 }) == Some(b"".as_slice())
+            && book
+                .word_from(words, Shown::FixedWord { start: 4, len: 6 })
+                .is_none()
+            && book
+                .word_from(words, Shown::FixedWord { start: 10, len: 0 })
+                .is_none()
+            && book.word_from(words, Shown::BookText(2)).is_none()
     }
 
     #[test]
@@ -242,10 +192,10 @@ mod tests {
 
     fn takes_most(book: &mut NameBook) -> bool {
         enter_many(book, 65535)
-            && is_full(book.enter(b"one more"))
+            && book.enter(b"one more") == Err(Refusal::BookFull)
             && holds(book, 65535, 1, 4)
             && stands(book, &[0u8; 4], 1)
-            && tells_full(book.plan(&[0u8; 4], b""))
+            && book.plan(&[0u8; 4], b"") == Err(Refusal::BookFull)
     }
 
     #[test]
