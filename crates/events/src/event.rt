@@ -12,14 +12,14 @@ pub struct TimeTaken {
 }
 
 // Which attempt of how many.
-#[derive(Clone, Copy, PartialEq, Eq)]
+#[derive(Clone, Copy, Debug, PartialEq, Eq)]
 pub struct RetryData {
     pub attempt: u32,
     pub total_attempts: u32,
 }
 
 // The results of a run so far.
-#[derive(Clone, Copy, PartialEq, Eq)]
+#[derive(Clone, Copy, Debug, PartialEq, Eq)]
 pub struct RunStats {
     pub passed: u32,
     pub flaky: u32,
@@ -29,14 +29,14 @@ pub struct RunStats {
 }
 
 // A test is told by its binary and its name.
-#[derive(Clone, Copy)]
+#[derive(Clone, Copy, Debug)]
 pub struct TestInstanceId<'a> {
     pub binary_id: &'a [u8],
     pub test_name: &'a [u8],
 }
 
 // What happened; each text is a part of the sheet that it was read from.
-#[derive(Clone, Copy)]
+#[derive(Clone, Copy, Debug)]
 pub enum EventKind<'a> {
     RunStarted {
         run_id: &'a [u8],
@@ -110,7 +110,7 @@ pub enum EventKind<'a> {
     },
 }
 
-#[derive(Clone, Copy)]
+#[derive(Clone, Copy, Debug)]
 pub struct Event<'a> {
     pub timestamp: Timestamp,
     pub kind: EventKind<'a>,

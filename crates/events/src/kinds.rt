@@ -2,7 +2,7 @@ ghost use Rattle.std.specs.Prelude.{◌≡◌};
 ghost use Rattle.events.specs.Kinds.{limits, uses_a, uses_b};
 
 // The kinds of event, each with its three-letter kind word.
-#[derive(Clone, Copy, PartialEq, Eq)]
+#[derive(Clone, Copy, Debug, PartialEq, Eq)]
 pub enum Kind {
     RunStarted,
     RunFinished,
@@ -29,9 +29,9 @@ pub const COUNTS: usize = 13;
 const COUNT: u32 = 4294967295;
 // The highest slot or index.
 const PLACE: u32 = 65535;
-
-const NANOSECONDS: u32 = 999999999;
-
+// The highest number of nanoseconds.
+const NANOS: u32 = 999999999;
+// A flag is 0 or 1.
 const FLAG: u32 = 1;
 
 impl Kind {
@@ -44,64 +44,25 @@ impl Kind {
             | Kind::RunFinished
             | Kind::StressSubRunStarted
             | Kind::StressSubRunFinished
-            | Kind::TestSkipped => [0, 0, 0, 0, 0, 0, 0, 0, 0, 0, 0, 0, 0],
+            | Kind::TestSkipped => [0; COUNTS],
             Kind::RunBeginCancel | Kind::RunPaused | Kind::RunContinued => {
                 [COUNT, COUNT, 0, 0, 0, 0, 0, 0, 0, 0, 0, 0, 0]
             }
             Kind::TestStarted => [COUNT, 0, PLACE, 0, 0, 0, 0, 0, 0, 0, 0, 0, 0],
             Kind::TestRetryStarted => [COUNT, 0, PLACE, COUNT, COUNT, 0, 0, 0, 0, 0, 0, 0, 0],
             Kind::TestAttemptFailedWillRetry => {
-                [
-                    COUNT,
-                    0,
-                    0,
-                    COUNT,
-                    COUNT,
-                    COUNT,
-                    NANOSECONDS,
-                    FLAG,
-                    0,
-                    0,
-                    0,
-                    0,
-                    0,
-                ]
+                [COUNT, 0, 0, COUNT, COUNT, COUNT, NANOS, FLAG, 0, 0, 0, 0, 0]
             }
             Kind::TestFinished => {
                 [
-                    COUNT,
-                    0,
-                    0,
-                    COUNT,
-                    COUNT,
-                    COUNT,
-                    NANOSECONDS,
-                    FLAG,
-                    COUNT,
-                    COUNT,
-                    COUNT,
-                    COUNT,
+                    COUNT, 0, 0, COUNT, COUNT, COUNT, NANOS, FLAG, COUNT, COUNT, COUNT, COUNT,
                     COUNT,
                 ]
             }
             Kind::SetupScriptStarted => [0, 0, PLACE, 0, 0, 0, 0, 0, 0, 0, 0, 0, 0],
-            Kind::SetupScriptFinished => [
-                0,
-                0,
-                PLACE,
-                0,
-                0,
-                COUNT,
-                NANOSECONDS,
-                FLAG,
-                0,
-                0,
-                0,
-                0,
-                0,
-            ],
-            Kind::TestSlow => [0, 0, 0, COUNT, 0, COUNT, NANOSECONDS, FLAG, 0, 0, 0, 0, 0],
-            Kind::SetupScriptSlow => [0, 0, 0, 0, 0, COUNT, NANOSECONDS, FLAG, 0, 0, 0, 0, 0],
+            Kind::SetupScriptFinished => [0, 0, PLACE, 0, 0, COUNT, NANOS, FLAG, 0, 0, 0, 0, 0],
+            Kind::TestSlow => [0, 0, 0, COUNT, 0, COUNT, NANOS, FLAG, 0, 0, 0, 0, 0],
+            Kind::SetupScriptSlow => [0, 0, 0, 0, 0, COUNT, NANOS, FLAG, 0, 0, 0, 0, 0],
         }
     }
 

@@ -3,5 +3,6 @@
 
 pub mod event;
 pub mod kinds;
+pub mod line;
 pub mod rules;
 mod said;

@@ -22,12 +22,7 @@ impl Timestamp {
 pub fn within_limits(limits: &[u32; COUNTS], counts: &[u32; COUNTS]) -> bool
     ensures { result ≡ within limits.now counts.now }
 {
-    for i in 0..COUNTS {
-        if counts[i] > limits[i] {
-            return false;
-        }
-    }
-    true
+    counts.iter().zip(limits).all(|(n, limit)| n <= limit)
 }
 
 // Whether a text has 1 to 255 bytes, each of them printable.
@@ -41,16 +36,11 @@ pub fn is_text(text: &[u8]) -> bool
 pub fn text_keeps(used: bool, text: &[u8]) -> bool
     ensures { result ≡ text_keeps used text.now }
 {
-    if used { is_text(text) } else { text.len() == 0 }
+    if used { is_text(text) } else { text.is_empty() }
 }
 
 fn all_printable(text: &[u8]) -> bool
     ensures { result ≡ all_printable text.now }
 {
-    for byte in text {
-        if *byte < 0x20 || *byte > 0x7e {
-            return false;
-        }
-    }
-    true
+    text.iter().all(|byte| (0x20..=0x7e).contains(byte))
 }

@@ -1,5 +1,5 @@
 -- Texts that may be missing, and what is written of numbers and of texts.
-use Rattle.std.specs.Prelude.{ℕ, Bool, true, false, cond, ◌||◌, List, [], ◌∷◌, ◌++◌, ℤ, pos, negsuc, Some, None, codes, Option, ◌==◌}
+use Rattle.std.specs.Prelude.{ℕ, cond, ◌||◌, List, [], ◌∷◌, ◌++◌, Some, None, codes, Option, ◌==◌}
 use Prim.Native.String.{String}
 use Rattle.std.specs.List.{flat_map}
 
@@ -16,10 +16,6 @@ abbrev pub ◌+?◌ : Text → Text → Text
 Some x +? Some y = Some (x ++ y)
 Some x +? None = None
 None +? y = None
-
-abbrev pub below_zero : ℤ → Bool
-below_zero (pos n) = false
-below_zero (negsuc n) = true
 
 -- a quote and a backslash get a backslash in front
 abbrev pub escaped_byte : ℕ → List ℕ

@@ -1,13 +1,14 @@
 // Where a text goes: one end counts it, one writes it. What cannot be shown has no text.
 #![tactic(auto)]
 
-ghost use Rattle.std.specs.Prelude.{◌≡◌, ◌+◌, ◌≤◌, [], ◌++◌, length, take, drop, Some, None, decimal, unsigned_abs, refl};
+ghost use Rattle.std.specs.Prelude.{◌≡◌, ◌+◌, ◌≤◌, [], ◌++◌, length, take, drop, Some, None, refl};
 ghost use Rattle.std.proofs.Common.{◌∙◌};
-ghost use Rattle.std.specs.Fmt.{signed_decimal};
-ghost use Rattle.outs.specs.Texts.{Text, ◌+?◌, below_zero, escaped_byte, escaped};
+ghost use Rattle.outs.specs.Texts.{Text, ◌+?◌, escaped_byte, escaped};
 ghost use Rattle.outs.specs.Outs.{Filled, Counted};
 ghost use Rattle.outs.specs.Adding.{filled_still, filled_join, counted_still, counted_join};
 ghost use Rattle.outs.specs.Laws.{TextsComeBack, NumbersPlain};
+
+use itoa::Integer;
 
 // What texts are added to, one behind the other; neither call can fail.
 pub trait Out {
@@ -27,7 +28,7 @@ pub trait Out {
 }
 
 // How many places are left, or none once a text was refused.
-#[derive(Drop)]
+#[derive(Debug, Drop)]
 pub struct Counter {
     pub left: Option<usize>,
 }
@@ -40,16 +41,7 @@ impl Out for Counter {
     ghost join = { λ a b c x y. counted_join a.left b.left c.left x y };
 
     fn put(&mut self, text: &[u8]) {
-        self.left = match self.left {
-            Some(n) => {
-                if text.len() <= n {
-                    Some(n - text.len())
-                } else {
-                    None
-                }
-            }
-            None => None,
-        };
+        self.left = self.left.and_then(|n| n.checked_sub(text.len()));
     }
 
     fn refuse(&mut self) {
@@ -58,19 +50,10 @@ impl Out for Counter {
 }
 
 // A lent output, and where the next text goes. A text that finds no room is not written.
-#[derive(Drop)]
+#[derive(Debug, Drop)]
 pub struct Buffer<'a> {
     pub out: &'a mut [u8],
     pub at: usize,
-}
-
-// The text at a place, where it fits there.
-fn copy_in(out: &mut [u8], at: usize, text: &[u8])
-    requires { at + length text.now ≤ length out.old }
-    ensures { (take (at + length text.now) out.new ≡ take at out.old ++ text.now) × (drop (at + length text.now) out.new ≡ drop (at + length text.now) out.old) }
-{
-    let end = at + text.len();
-    out[at..end].copy_from_slice(text);
 }
 
 impl<'a> Out for Buffer<'a> {
@@ -82,60 +65,22 @@ impl<'a> Out for Buffer<'a> {
 
     fn put(&mut self, text: &[u8]) {
         let at = self.at;
-        if at <= self.out.len() && text.len() <= self.out.len() - at {
-            copy_in(self.out, at, text);
-            self.at = at + text.len();
+        if let Some(end) = at.checked_add(text.len())
+            && end <= self.out.len()
+        {
+            self.out[at..end].copy_from_slice(text);
+            self.at = end;
         }
     }
 
     fn refuse(&mut self) {}
 }
 
-// The digits of n at the end of the twenty bytes, and where they begin.
-fn put_digits(out: &mut [u8], n: u64) -> usize
-    requires { length out.old ≡ 20 }
-    ensures begins { result + length (decimal n) ≡ 20 }
-    ensures digits { drop result out.new ≡ decimal n }
+// A number, as `{}` prints it.
+pub fn number<O: Out, I: Integer>(o: &mut O, n: I)
+    ensures { O.added o.old (Some (I.text n)) o.new }
 {
-    let mut i = 20;
-    let mut left = n;
-    while left >= 10 {
-        i -= 1;
-        out[i] = b'0' + (left % 10) as u8;
-        left /= 10;
-    }
-    i -= 1;
-    out[i] = b'0' + left as u8;
-    i
-}
-
-// A number in decimal.
-pub fn number<O: Out>(o: &mut O, n: u64)
-    ensures { O.added o.old (Some (decimal n)) o.new }
-{
-    let mut digits = [0u8; 20];
-    let i = put_digits(&mut digits, n);
-    o.put(&digits[i..20]);
-}
-
-// Whether a number is below 0, and how far from it.
-fn split_sign(z: i64) -> (bool, u64)
-    ensures { (result.0 ≡ below_zero z) × (result.1 ≡ unsigned_abs z) }
-{
-    (z < 0, z.unsigned_abs())
-}
-
-// A number in decimal, with a minus in front where it is below 0.
-pub fn signed_number<O: Out>(o: &mut O, z: i64)
-    ensures { O.added o.old (Some (signed_decimal z)) o.new }
-{
-    let (minus, n) = split_sign(z);
-    if minus {
-        o.put(b"-");
-        number(o, n);
-    } else {
-        number(o, n);
-    }
+    o.put(itoa::Buffer::new().format(n).as_bytes());
 }
 
 fn escaped_byte<O: Out>(o: &mut O, b: u8)

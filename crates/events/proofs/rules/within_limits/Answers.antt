@@ -1,23 +1,10 @@
-use Rattle.std.proofs.Common.{sym, ◌∙◌, ap₂, arith}
-use Rattle.std.proofs.lemmas.Bool.Decides.{nat_tests}
-use Rattle.std.proofs.lemmas.List.{drop_all}
-use Rattle.events.specs.Rules.{within}
-use Rattle.events.proofs.Limits.{within_more}
+use Rattle.std.proofs.Common.{nat_le, ◌∙◌, arith, rules}
+use Rattle.std.proofs.lemmas.Iterator.{YieldsList-from_slice, YieldsList-from_zip}
+use Rattle.std.proofs.lemmas.Iterator.Search.{all_from_yields_List}
+use Rattle.events.proofs.Limits.{within_zip}
 use Rattle.events.proofs.rules.within_limits.Goals as goal
-
-pub returns-then-counts-i : goal.returns-then-counts-i
-returns-then-counts-i c =
-    let e = within_more c.args.limits.now c.args.counts.now c.loop-i.i (omega arith) (omega arith) in
-    let h = c.loop-i.invariant in
-    grind (arith, nat_tests)
-
-pub loop-i-preserved : goal.loop-i-preserved
-loop-i-preserved c =
-    let e = within_more c.args.limits.now c.args.counts.now c.loop-i.i (omega arith) (omega arith) in
-    let h = c.loop-i.invariant in
-    grind (arith, nat_tests)
 
 pub returns : goal.returns
 returns c =
-    sym (ap₂ within (drop_all c.loop-i.i c.args.limits.now (omega arith)) (drop_all c.loop-i.i c.args.counts.now (omega arith)))
-    ∙ c.loop-i.invariant
+    all_from_yields_List (λ p. nat_le p.0 p.1) c.all.new.self _ _ c.all.ensures.ran (YieldsList-from_zip (YieldsList-from_slice c.args.counts.now cc) (YieldsList-from_slice c.args.limits.now cc)) (λ x b q k. search rules)
+    ∙ within_zip c.args.limits.now c.args.counts.now (omega arith)
