@@ -4,18 +4,27 @@
 ghost use Rattle.std.specs.Prelude.{◌≡◌, MatchResult};
 ghost use Rattle.names.specs.Book.{shelf_of};
 ghost use Rattle.names.specs.Shelf.{entered};
-ghost use Rattle.states.specs.States.{fresh, started, telling, ended};
+ghost use Rattle.states.specs.States.{fresh, started, ended};
 
 use events::rules::is_text;
 use names::NameBook;
 use refusal::Refusal;
 
 // What the bar of the run on its lane is like.
-#[derive(Clone, Copy, PartialEq, Eq)]
+#[derive(Clone, Copy, Debug, PartialEq, Eq)]
 pub enum RunBarState {
     Closed,
     Open,
     Paused,
+}
+
+// What a trace tells beside its events: texts, by their numbers in the name book.
+#[derive(Clone, Copy, Debug, PartialEq, Eq)]
+pub struct OtherData {
+    pub version: u32,
+    // of the last run, where a run started
+    pub run_id: Option<u32>,
+    pub profile_name: Option<u32>,
 }
 
 // A converter that takes events. It can be neither copied nor let go: it has to be finished.
@@ -26,18 +35,13 @@ pub struct Recording {
     pub stress_subrun_open: bool,
     // how many arrows there were so far, and so the next one's number
     pub next_flow_id: u32,
-    // texts go by their numbers in the name book
-    pub version: u32,
-    pub run_id: Option<u32>,
-    pub profile_name: Option<u32>,
+    pub other_data: OtherData,
 }
 
-// A trace that takes no more events, with the texts that it tells beside them.
+// A trace that takes no more events, with what it tells beside them.
 // Only a recording that is finished becomes one.
 pub struct Finished {
-    version: u32,
-    run_id: Option<u32>,
-    profile_name: Option<u32>,
+    other_data: OtherData,
 }
 
 impl Recording {
@@ -49,10 +53,8 @@ impl Recording {
         if !is_text(version) {
             return Err(Refusal::BadText);
         }
-        match book.enter(version) {
-            Ok(number) => Ok(Recording::at(number)),
-            Err(refusal) => Err(refusal),
-        }
+        let number = book.enter(version)?;
+        Ok(Recording::at(number))
     }
 
     // Nothing has happened yet.
@@ -65,9 +67,11 @@ impl Recording {
             running_script_count: 0,
             stress_subrun_open: false,
             next_flow_id: 0,
-            version,
-            run_id: None,
-            profile_name: None,
+            other_data: OtherData {
+                version,
+                run_id: None,
+                profile_name: None,
+            },
         }
     }
 
@@ -81,55 +85,24 @@ impl Recording {
             running_script_count: _,
             stress_subrun_open: _,
             next_flow_id: _,
-            version,
-            run_id,
-            profile_name,
+            other_data,
         } = self;
-        Finished::telling(version, run_id, profile_name)
+        Finished { other_data }
     }
 }
 
 impl Finished {
-    fn telling(version: u32, run_id: Option<u32>, profile_name: Option<u32>) -> Finished
-        ensures { result ≡ telling version run_id profile_name }
+    pub fn other_data(&self) -> OtherData
+        ensures { result ≡ self.now.other_data }
     {
-        Finished {
-            version,
-            run_id,
-            profile_name,
-        }
+        self.other_data
     }
 
-    // The book number of the version.
-    pub fn version(&self) -> u32
-        ensures { result ≡ self.now.version }
+    // Gives up the trace, and says what it told.
+    pub fn close(self) -> OtherData
+        ensures { result ≡ self.other_data }
     {
-        self.version
-    }
-
-    // The book number of the last run's id, where a run started.
-    pub fn run_id(&self) -> Option<u32>
-        ensures { result ≡ self.now.run_id }
-    {
-        self.run_id
-    }
-
-    // The book number of the last run's profile, where a run started.
-    pub fn profile_name(&self) -> Option<u32>
-        ensures { result ≡ self.now.profile_name }
-    {
-        self.profile_name
-    }
-
-    // Gives up the trace, and says which texts it told.
-    pub fn close(self) -> (u32, Option<u32>, Option<u32>)
-        ensures { result ≡ (self.version, self.run_id, self.profile_name) }
-    {
-        let Finished {
-            version,
-            run_id,
-            profile_name,
-        } = self;
-        (version, run_id, profile_name)
+        let Finished { other_data } = self;
+        other_data
     }
 }
