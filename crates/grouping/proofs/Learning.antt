@@ -6,7 +6,8 @@ use Rattle.std.proofs.lemmas.Bool.{cases_Bool}
 use Rattle.refusal.specs.declared.Refusal.{Refusal}
 use Rattle.refusal.specs.declared.Refusal.TheVariants.{NoPlace}
 use Rattle.table.specs.Count.{has, pick}
-use Rattle.table.specs.Held.{of, entered, listed, room, takes, Single}
+use Rattle.table.specs.Keyed.{of, entered}
+use Rattle.table.specs.Held.{listed, room, takes}
 use Rattle.table.specs.declared.Table.{Table}
 use Rattle.table.proofs.Rooms.{listed_fits, room_most}
 use Rattle.rows.specs.Keys.{binary_key, unranked}
@@ -35,13 +36,17 @@ ranged_put r xs h i b p e = elim (cases_Bool (eqb b r.binary)) [
   | inr f ↦ h b p (sym (passed (eqb b r.binary) (Some r.process) (process_in xs b) f) ∙ sym (process_put r xs b) ∙ e)
 ]
 
-pub next_ranged : (t : Table KnownBinary) (n : ℕ) → n ≡ length (listed t) → InRange (2 + n)
-next_ranged t n e = (omega arith, omega (arith, listed_fits t, room_most t))
+pub next_ranged : {row : _} {eq : _} (t : Table KnownBinary ℕ row eq) (p : ℕ) → p ≡ 2 + length (listed t) → InRange p
+next_ranged t p e = (omega arith, omega (arith, listed_fits t, room_most t))
 
 -- whichever way an insertion went
-pub ranged_after : (r : Result (Unit {0}) Refusal) (row : KnownBinary) (was is : Table KnownBinary) → MatchResult r (λ _. listed is ≡ entered eqb binary_key unranked row (listed was)) (λ e. (e ≡ NoPlace) × (is ≡ was)) → Ranged (listed was) → InRange row.process → Ranged (listed is)
-ranged_after (Ok x) row was is h ranged i = let P : List KnownBinary → Type 0 = λ l. Ranged l in subst P (sym h) (ranged_put row (listed was) ranged i)
-ranged_after (Err e) row was is h ranged i = let P : Table KnownBinary → Type 0 = λ t. Ranged (listed t) in subst P (sym h.1) ranged
+pub ranged_after : (r : Result (Unit {0}) Refusal) {keys : _} {same : _} (row : KnownBinary) (was is : Table KnownBinary ℕ keys same) → MatchResult r (λ _. listed is ≡ entered eqb binary_key unranked row (listed was)) (λ e. (e ≡ NoPlace) × (is ≡ was)) → Ranged (listed was) → InRange row.process → Ranged (listed is)
+ranged_after (Ok x) {keys} {same} row was is h ranged i = let P : List KnownBinary → Type 0 = λ l. Ranged l in subst P (sym h) (ranged_put row (listed was) ranged i)
+ranged_after (Err e) {keys} {same} row was is h ranged i = let P : Table KnownBinary ℕ keys same → Type 0 = λ t. Ranged (listed t) in subst P (sym h.1) ranged
+
+unpicked : (xs : List KnownBinary) → first_process xs ≡ None → xs ≡ []
+unpicked [] e = refl
+unpicked (r ∷ rs) e = cc
 
 none_has : (p : KnownBinary → Bool) (xs : List KnownBinary) → pick p xs ≡ [] → has p xs ≡ false
 none_has p [] e = refl
@@ -50,15 +55,12 @@ none_has p (x ∷ xs) e = elim (cases_Bool (p x)) [
   | inr f ↦ let s : pick p xs ≡ [] = sym (passed (p x) (x ∷ pick p xs) (pick p xs) f) ∙ e in let h = none_has p xs s in rw f h
 ]
 
-module _ (t : Table KnownBinary) (b : ℕ) (none : pick (of eqb binary_key b) (listed t) ≡ []) where
-  pub unknown : process_in (listed t) b ≡ None
-  unknown = ap first_process none
-
+module _ {row : _} {eq : _} (t : Table KnownBinary ℕ row eq) (b : ℕ) (none : process_in (listed t) b ≡ None) where
   free_is : takes (of eqb binary_key b) t ≡ ltb (length (listed t)) (room t)
-  free_is = ap (λ h. h || ltb (length (listed t)) (room t)) (none_has (of eqb binary_key b) (listed t) none)
+  free_is = ap (λ h. h || ltb (length (listed t)) (room t)) (none_has (of eqb binary_key b) (listed t) (unpicked _ none))
 
-  pub offers : (n : ℕ) → n ≡ length (listed t) → true ≡ takes (of eqb binary_key b) t → offer_in (length (listed t)) (room t) ≡ Some (2 + n)
-  offers n e h = chosen (ltb (length (listed t)) (room t)) (Some (2 + length (listed t))) None (sym (h ∙ free_is)) ∙ ap (λ k. Some (2 + k)) (sym e)
+  pub offers : (p : ℕ) → p ≡ 2 + length (listed t) → true ≡ takes (of eqb binary_key b) t → offer_in (length (listed t)) (room t) ≡ Some p
+  offers p e h = chosen (ltb (length (listed t)) (room t)) (Some (2 + length (listed t))) None (sym (h ∙ free_is)) ∙ ap Some (sym e)
 
   pub no_offer : false ≡ takes (of eqb binary_key b) t → offer_in (length (listed t)) (room t) ≡ None
   no_offer h = passed (ltb (length (listed t)) (room t)) (Some (2 + length (listed t))) None (sym (h ∙ free_is))
@@ -70,6 +72,5 @@ ranged_prop xs = Π_prop (λ _. Π_prop (λ _. Π_prop (λ _. ×_prop le_prop le
 pub same_groups : (g h : ByBinary) → g.known ≡ h.known → g ≡ h
 same_groups g h e = λ i. record {
   known = e i;
-  one = is_prop→PathP (λ i. Single eqb binary_key (listed (e i))) (λ i. Π_prop (λ _. le_prop)) g.one h.one i;
   ranged = is_prop→PathP (λ i. Ranged (listed (e i))) (λ i. ranged_prop (listed (e i))) g.ranged h.ranged i;
 }

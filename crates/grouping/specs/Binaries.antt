@@ -2,7 +2,7 @@
 use Rattle.std.specs.Prelude.{◌≡◌, ℕ, ◌+◌, ◌<◌, ◌≤◌, Bool, true, false, cond, List, [], ◌∷◌, Some, None, Option, nat_eq, nat_lt, refl}
 use Rattle.std.proofs.Common.{arith, ltb-true}
 use Rattle.table.specs.Count.{pick}
-use Rattle.table.specs.Held.{of}
+use Rattle.table.specs.Keyed.{of}
 use Rattle.rows.specs.Keys.{binary_key}
 use Rattle.rows.specs.declared.known_binary.KnownBinary.{KnownBinary}
 use Rattle.grouping.specs.Asked.{InRange}

@@ -1,8 +1,6 @@
 // By binary: a process for each binary, in the order in which they are met.
 
-ghost use Rattle.std.specs.Prelude.{nat_eq};
-ghost use Rattle.table.specs.Held.{listed, Single};
-ghost use Rattle.rows.specs.Keys.{binary_key};
+ghost use Rattle.table.specs.Held.{listed};
 ghost use Rattle.grouping.specs.Binaries.{Ranged};
 
 use rows::KnownBinary;
@@ -14,6 +12,5 @@ pub mod learns;
 #[derive(Drop)]
 pub struct ByBinary<'a> {
     known: Table<'a, KnownBinary>,
-    ghost one: { Single nat_eq binary_key (listed known) },
     ghost ranged: { Ranged (listed known) },
 }

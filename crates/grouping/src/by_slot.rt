@@ -12,7 +12,7 @@ use trace::{Label, NamePattern};
 // The process of all tests.
 const ALL_TESTS: u32 = 2;
 
-#[derive(Clone, Copy)]
+#[derive(Clone, Copy, Debug)]
 pub struct BySlot;
 
 impl Grouping for BySlot {

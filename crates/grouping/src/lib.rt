@@ -2,7 +2,7 @@
 #![tactic(auto)]
 
 ghost use Rattle.std.specs.Prelude.{◌≡◌, ℕ, ◌≤◌, true, List, is_some, Some, None, Option, MatchResult};
-ghost use Rattle.refusal.specs.Numbers.{number_of};
+ghost use Rattle.refusal.specs.declared.Refusal.TheVariants.{NoPlace};
 ghost use Rattle.trace.specs.declared.Label.{Label as LabelOf};
 ghost use Rattle.trace.specs.declared.NamePattern.{NamePattern as PatternOf};
 ghost use Rattle.grouping.specs.Asked.{asked, learnt, InRange};
@@ -37,7 +37,7 @@ pub trait Grouping {
 
     // The binary's process, which it has from now on.
     fn learn(&mut self, binary: u32, id: &[u8]) -> Result<u32, Refusal>
-        ensures answer { MatchResult result (λ p. asked (process self.old) (offer self.old) binary id.now ≡ Some p) (λ e. (asked (process self.old) (offer self.old) binary id.now ≡ None) × (number_of e ≡ 12) × (self.new ≡ self.old)) }
+        ensures answer { MatchResult result (λ p. asked (process self.old) (offer self.old) binary id.now ≡ Some p) (λ e. (asked (process self.old) (offer self.old) binary id.now ≡ None) × (e ≡ NoPlace) × (self.new ≡ self.old)) }
         ensures after { MatchResult result (λ p. ((c : ℕ) → process self.new c ≡ learnt (process self.old) binary p c)) (λ e. ((c : ℕ) → process self.new c ≡ process self.old c)) }
         ensures known { is_some (process self.old binary) ≡ true → self.new ≡ self.old }
         ensures labels { (b : ℕ) (i : List ℕ) (t : ℕ) → label self.new b i t ≡ label self.old b i t }

@@ -1,11 +1,9 @@
-ghost use Rattle.std.specs.Prelude.{nat_eq};
 ghost use Rattle.rows.specs.Keys.{binary_key, unranked};
-ghost use Rattle.std.proofs.Common.{rules};
 
 use table::Row;
 
 // A binary, and the process that shows it: by arrival.
-#[derive(Clone, Copy, PartialEq, Eq)]
+#[derive(Clone, Copy, Debug, PartialEq, Eq)]
 pub struct KnownBinary {
     pub binary: u32,
     pub process: u32,
@@ -16,22 +14,10 @@ impl Row for KnownBinary {
 
     ghost key_of = { binary_key };
 
-    ghost same = { nat_eq };
-
     ghost rank_of = { unranked };
-
-    ghost reflexive = { Prim.search rules };
-
-    ghost symmetric = { Prim.search rules };
-
-    ghost transitive = { Prim.search rules };
 
     fn key(&self) -> u32 {
         self.binary
-    }
-
-    fn has_key(&self, key: &u32) -> bool {
-        *key == self.binary
     }
 
     fn rank(&self) -> u32 {

@@ -1,10 +1,9 @@
-ghost use Rattle.rows.specs.Keys.{same_lane, lane_key, unranked};
-ghost use Rattle.std.proofs.Common.{rules};
+ghost use Rattle.rows.specs.Keys.{lane_key, unranked};
 
 use table::Row;
 
 // A lane that has its name, by its process and its number there: by arrival.
-#[derive(Clone, Copy, PartialEq, Eq)]
+#[derive(Clone, Copy, Debug, PartialEq, Eq)]
 pub struct NamedLane {
     pub process: u32,
     pub lane: u32,
@@ -15,22 +14,10 @@ impl Row for NamedLane {
 
     ghost key_of = { lane_key };
 
-    ghost same = { same_lane };
-
     ghost rank_of = { unranked };
-
-    ghost reflexive = { Prim.search rules };
-
-    ghost symmetric = { Prim.search rules };
-
-    ghost transitive = { Prim.search rules };
 
     fn key(&self) -> (u32, u32) {
         (self.process, self.lane)
-    }
-
-    fn has_key(&self, key: &(u32, u32)) -> bool {
-        key.0 == self.process && key.1 == self.lane
     }
 
     fn rank(&self) -> u32 {

@@ -1,11 +1,10 @@
-ghost use Rattle.rows.specs.Keys.{same_test, running_key, running_rank};
-ghost use Rattle.std.proofs.Common.{rules};
+ghost use Rattle.rows.specs.Keys.{running_key, running_rank};
 
 use super::TestKey;
 use table::Row;
 
 // A test that runs, in its slot: by slot.
-#[derive(Clone, Copy, PartialEq, Eq)]
+#[derive(Clone, Copy, Debug, PartialEq, Eq)]
 pub struct RunningTest {
     pub binary: u32,
     pub test: u32,
@@ -17,25 +16,13 @@ impl Row for RunningTest {
 
     ghost key_of = { running_key };
 
-    ghost same = { same_test };
-
     ghost rank_of = { running_rank };
-
-    ghost reflexive = { Prim.search rules };
-
-    ghost symmetric = { Prim.search rules };
-
-    ghost transitive = { Prim.search rules };
 
     fn key(&self) -> TestKey {
         TestKey {
             binary: self.binary,
             test: self.test,
         }
-    }
-
-    fn has_key(&self, key: &TestKey) -> bool {
-        key.binary == self.binary && key.test == self.test
     }
 
     fn rank(&self) -> u32 {

@@ -4,4 +4,5 @@ pub mod Numbers
 pub mod Texts
 pub mod Behind
 pub mod Faults
+pub mod Sentences
 pub mod Next

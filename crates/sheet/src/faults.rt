@@ -4,9 +4,11 @@ ghost use Rattle.std.specs.Prelude.{◌≡◌};
 ghost use Rattle.sheet.specs.Faults.{refusal_of, column_named};
 
 use refusal::Refusal;
+use std::error::Error;
+use std::fmt;
 
 // The first fault of a line.
-#[derive(Clone, Copy, PartialEq, Eq)]
+#[derive(Clone, Copy, Debug, PartialEq, Eq)]
 pub enum Fault {
     // some bytes are left, too few for a line
     ShortLine,
@@ -40,3 +42,28 @@ impl Fault {
         }
     }
 }
+
+// What a fault means, in words.
+impl fmt::Display for Fault {
+    ghost use Rattle.std.specs.Prelude.{Some};
+    ghost use Rattle.sheet.specs.Sentences.{sentence_of};
+
+    ghost output = { λ fault. Some (sentence_of fault) };
+
+    fn fmt<W: fmt::Write>(&self, f: &mut fmt::Formatter<W>) -> fmt::Result {
+        match self {
+            Fault::ShortLine => f.write_str(
+                "the sheet ends inside this line: a line has at least 292 bytes",
+            ),
+            Fault::UnknownKind => f.write_str("the line begins with no known kind word"),
+            Fault::BadNumber(_) => f.write_str(
+                "the number that begins here is malformed, out of its range, or not 0 where the kind has no use for it",
+            ),
+            Fault::BadText => f.write_str(
+                "a text or its length breaks the rules, or the texts and the line feed do not follow in full",
+            ),
+        }
+    }
+}
+
+impl Error for Fault {}

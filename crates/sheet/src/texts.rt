@@ -8,18 +8,14 @@ use crate::numbers::read_count;
 const LONGEST_TEXT: u32 = 255;
 
 // The texts of these lengths that stand in front of a line feed, if they do.
-#[tactic(auto, using(crate::proofs::Cuts::feed_stands))]
 fn cut_texts<'a>(bytes: &'a [u8], a: usize, b: usize) -> Option<(&'a [u8], &'a [u8])>
     requires { (a ≤ 255) × (b ≤ 255) }
     ensures { MatchOption result ((x y rest : List ℕ) → length x ≡ a → length y ≡ b → bytes.now ≢ x ++ (y ++ (10 ∷ rest))) (λ p. Cut a b bytes.now p.0.now p.1.now) }
 {
-    if bytes.len() <= a + b {
+    if bytes.len() <= a + b || bytes[a + b] != b'\n' {
         return None;
     }
-    if bytes[a + b] != b'\n' {
-        return None;
-    }
-    Some((&bytes[0..a], &bytes[a..a + b]))
+    Some(bytes[..a + b].split_at(a))
 }
 
 // The two texts that follow their lengths and stand in front of a line feed, if they do.
@@ -27,14 +23,7 @@ pub(crate) fn read_texts<'a>(bytes: &'a [u8]) -> Option<(&'a [u8], &'a [u8])>
     requires { 9 ≤ length bytes.now }
     ensures { MatchOption result ((x y rest : List ℕ) → length x ≤ 255 → length y ≤ 255 → TextsRead bytes.now x y rest → ⊥) (λ p. Found bytes.now p.0.now p.1.now) }
 {
-    let Some(a) = read_count(&bytes[0..4], LONGEST_TEXT) else {
-        return None;
-    };
-    let Some(b) = read_count(&bytes[4..8], LONGEST_TEXT) else {
-        return None;
-    };
-    match cut_texts(&bytes[8..bytes.len()], a as usize, b as usize) {
-        Some(texts) => Some(texts),
-        None => None,
-    }
+    let a = read_count(&bytes[..4], LONGEST_TEXT)?;
+    let b = read_count(&bytes[4..8], LONGEST_TEXT)?;
+    cut_texts(&bytes[8..], a as usize, b as usize)
 }

@@ -31,15 +31,12 @@ fn kind_of(x: u8, y: u8, z: u8) -> Option<Kind>
     }
 }
 
-// The kind whose word stands in front, and the bytes behind it.
+// The kind whose word stands in front, and the bytes behind it; a slice pattern takes the three letters.
 pub fn kind_word<'a>(line: &'a [u8]) -> Option<(Kind, &'a [u8])>
     ensures { MatchOption result ((k : Kinds) → take 3 line.now ≢ letters k) (λ p. (take 3 line.now ≡ letters p.0) × (p.1.now ≡ drop 3 line.now)) }
 {
     let [x, y, z, rest @ ..] = line else {
         return None;
     };
-    match kind_of(*x, *y, *z) {
-        Some(kind) => Some((kind, rest)),
-        None => None,
-    }
+    Some((kind_of(*x, *y, *z)?, rest))
 }

@@ -5,3 +5,4 @@ mod Rows
 mod Numerals
 mod Decoding
 mod Cuts
+pub mod Made

@@ -1,11 +1,12 @@
 -- What users of a table need: what it answers after a move, how many rows it has then, their order, and that a key
 -- stays in it at most once.
-use Rattle.std.proofs.Common.{◌≡◌, ℕ, ◌+◌, Bool, true, false, List, [], length, ◌∙◌, inl, inr, arith}
+use Rattle.std.proofs.Common.{◌≡◌, ℕ, ◌+◌, Bool, true, false, List, [], length, sym, ◌∙◌, inl, inr, arith}
 use mathlib.Core.HLevel.{Π_prop}
 use native.Mathlib.Bridge.{le_prop}
+use Rattle.std.specs.Cmp.{IsEquivalence}
 use Rattle.std.proofs.lemmas.Bool.{cases_Bool}
 use Rattle.table.specs.Count.{cnt, cut, pick}
-use Rattle.table.specs.Held.{of, Single, entered}
+use Rattle.table.specs.Keyed.{of, Single, entered}
 use Rattle.table.specs.Law.{Stands}
 use Rattle.table.proofs.Counts.{cnt_append, cnt_put, cnt_cut, cnt_cut_le, cnt_cut_all, length_put, length_cut, pick_none, pick_put_other, pick_put_one, pick_cut_other}
 use Rattle.table.proofs.Orders.{ordered_none, ordered_put, ordered_cut, ordered_only}
@@ -14,18 +15,13 @@ use Rattle.table.proofs.Orders.{ordered_none, ordered_put, ordered_cut, ordered_
 pub single_prop : {K R : Type 0} (same : K → K → Bool) (key : R → K) (xs : List R) → IsProp (Single same key xs)
 single_prop same key xs = Π_prop (λ _. le_prop)
 
-module _ {K R : Type 0} (same : K → K → Bool) (key : R → K) (rank : R → ℕ)
-    (reflexive : (k : K) → same k k ≡ true)
-    (symmetric : (k l : K) → same k l ≡ true → same l k ≡ true)
-    (transitive : (k l m : K) → same k l ≡ true → same l m ≡ true → same k m ≡ true) where
+module _ {K R : Type 0} (same : K → K → Bool) (key : R → K) (rank : R → ℕ) (equal : IsEquivalence same) where
   -- what has a key has each key that is the same, and no other
   alike : (k l : K) → same k l ≡ true → (x : R) → of same key k x ≡ true → of same key l x ≡ true
-  alike k l e x t = transitive l k (key x) (symmetric k l e) t
+  alike k l e x t = sym (equal.congr k l (key x) e) ∙ t
 
   other : (k l : K) → same k l ≡ false → (x : R) → of same key k x ≡ true → of same key l x ≡ false
-  other k l f x t =
-      let b : same l (key x) ≡ true → same k l ≡ true = λ s. transitive k (key x) l t (symmetric l (key x) s) in
-      grind arith
+  other k l f x t = equal.symm l (key x) ∙ (sym (equal.congr k (key x) l t) ∙ f)
 
   gone : (k l : K) (xs : List R) → same k l ≡ true → pick (of same key k) (cut (of same key l) xs) ≡ []
   gone k l xs e = pick_none (of same key k) (cut (of same key l) xs) (cnt_cut_all (of same key k) (of same key l) (alike k l e) xs)
@@ -50,6 +46,7 @@ module _ {K R : Type 0} (same : K → K → Bool) (key : R → K) (rank : R → 
 
   pub stands : Stands same key rank
   stands = record {
+    equal = equal;
     single_none = λ k. omega arith;
     single_put = single_put;
     single_cut = single_cut;

@@ -1,93 +1,67 @@
--- One turn of a look-up by key, and of the look for a row's place.
-use Rattle.std.proofs.Common.{◌≡◌, ℕ, suc, ◌+◌, ◌<◌, ◌≤◌, Bool, true, false, cond, leb, List, [], ◌∷◌, ◌++◌, length, get_or, take, drop, sym, refl, ap, ◌∙◌, subst, inl, inr, append_assoc, arith}
-use Rattle.std.specs.List.{remove, insert}
-use Rattle.std.proofs.lemmas.Bool.Decides.{nat_tests}
-use Rattle.std.proofs.lemmas.List.{set-get_or, set_split, take_more, drop_more, drop_all, get_or-take, length-take-le, get_or_default}
-use Rattle.table.specs.Count.{bit, cnt, cut, put, pick}
-use Rattle.table.specs.Held.{Among}
-use Rattle.table.proofs.Counts.{cnt_append, pick_none}
+-- A row's place, by its key and by its rank.
+use Rattle.std.proofs.Common.{◌≡◌, ℕ, suc, ◌<◌, ◌≤◌, Bool, leb, List, [], ◌∷◌, length, get_or, is_some, Some, None, Option, ◌+◌, inl, inr, sym, ◌∙◌, refl, ap, arith}
+use Rattle.std.proofs.lemmas.Bool.{cases_Bool, cases_lt, lt-ltb, le-ltb}
+use Rattle.std.specs.List.{find, insert, remove, position, position_or_len, prefix_len}
+use Rattle.table.specs.Count.{cnt, has, cut, put, pick}
+use Rattle.table.specs.Keyed.{lone}
+use Rattle.table.proofs.Counts.{pick_none, cut_none, cnt_has, cnt_hasnt, length_pick}
 
 module _ {X : Type 0} (p : X → Bool) where
-  pick_mid : (a b : List X) (x : X) → p x ≡ true → cnt p (a ++ x ∷ b) ≤ 1 → pick p (a ++ x ∷ b) ≡ x ∷ []
-  pick_mid [] b x e h = let n = pick_none p b in grind arith
-  pick_mid (y ∷ a) b x e h = let ih = pick_mid a b x e in let n = cnt_append p a (x ∷ b) in grind arith
+  -- the first that passes is the only one
+  pub pick_find : (xs : List X) → cnt p xs ≤ 1 → lone (find p xs) ≡ pick p xs
+  pick_find [] one = refl
+  pick_find (x ∷ xs) one = let ih = pick_find xs in let n = pick_none p xs in grind arith
 
-  among_cond : (b : Bool) (x y : X) (ys : List X) → Among x ys → Among x (cond b (y ∷ ys) ys)
-  among_cond true x y ys h = inr h
-  among_cond false x y ys h = h
+  pick_first : (xs : List X) (d : X) → cnt p xs ≤ 1 → position_or_len p xs < length xs → get_or xs (position_or_len p xs) d ∷ [] ≡ pick p xs
+  pick_first [] d one lt = let z : ⊥ = omega arith in absurd z
+  pick_first (x ∷ xs) d one lt = let ih = pick_first xs d in let n = pick_none p xs in grind arith
 
-  among_mid : (a b : List X) (x : X) → p x ≡ true → Among x (pick p (a ++ x ∷ b))
-  among_mid [] b x e = rw e (inl refl)
-  among_mid (y ∷ a) b x e = among_cond (p y) x y (pick p (a ++ x ∷ b)) (among_mid a b x e)
+  remove_more : (x : X) (xs : List X) (i : ℕ) → remove (x ∷ xs) (1 + i) ≡ x ∷ remove xs i
+  remove_more x xs i = let e : 1 + i ≡ suc i = omega arith in ap (remove (x ∷ xs)) e
 
-  cut_less : (a b : List X) (x : X) → p x ≡ true → cut p (a ++ b) ≡ cut p (a ++ x ∷ b)
-  cut_less [] b x e = rw e refl
-  cut_less (y ∷ a) b x e = let ih = cut_less a b x e in grind arith
+  cut_first : (xs : List X) → cnt p xs ≤ 1 → position_or_len p xs < length xs → remove xs (position_or_len p xs) ≡ cut p xs
+  cut_first [] one lt = let z : ⊥ = omega arith in absurd z
+  cut_first (x ∷ xs) one lt = elim (cases_Bool (p x)) [
+    | inl t ↦ let n = cut_none p xs in grind arith
+    | inr f ↦ let ih = cut_first xs in let m = remove_more x xs (position_or_len p xs) in grind arith
+  ]
 
-  -- one that is among the picked is there
-  pub among_cnt : (x : X) (xs : List X) → Among x (pick p xs) → 1 ≤ cnt p xs
-  among_cnt x [] h = absurd h
-  among_cnt x (y ∷ xs) h = counted (p y) (cnt p xs) (pick p xs) (among_cnt x xs) h where
-    counted : (b : Bool) (n : ℕ) (ys : List X) → (Among x ys → 1 ≤ n) → Among x (cond b (y ∷ ys) ys) → 1 ≤ bit b + n
-    counted true n ys ih h = omega arith
-    counted false n ys ih h = let k = ih h in omega arith
+  cnt_past : (xs : List X) → length xs ≤ position_or_len p xs → cnt p xs ≡ 0
+  cnt_past [] le = refl
+  cnt_past (x ∷ xs) le = let ih = cnt_past xs in grind arith
 
-  -- one turn of a look-up
-  pub cnt_more : (xs : List X) (i : ℕ) (x : X) → i < length xs → x ≡ get_or xs i x → cnt p (take (i + 1) xs) ≡ cnt p (take i xs) + bit (p x)
-  cnt_more xs i x h e = ap (cnt p) (take_more xs i x h) ∙ (cnt_append p (take i xs) _ ∙ ap (λ y. cnt p (take i xs) + (bit (p y) + 0)) (sym e) ∙ omega arith)
+  -- what an answer of `position` says
+  pub absent : (xs : List X) → None ≡ position p xs → cnt p xs ≡ 0
+  absent xs e = elim (cases_lt (position_or_len p xs) (length xs)) [
+    | inl h ↦ let s : position p xs ≡ Some (position_or_len p xs) = rw (lt-ltb (position_or_len p xs) (length xs) h) refl in cc
+    | inr h ↦ cnt_past xs h
+  ]
 
-module _ {X : Type 0} (xs : List X) (i : ℕ) (x : X) (h : i < length xs) (e : x ≡ get_or xs i x) where
-  split : xs ≡ take i xs ++ x ∷ drop (suc i) xs
-  split = sym (set-get_or xs i x) ∙ set_split xs i (get_or xs i x) h ∙ ap (λ y. take i xs ++ y ∷ drop (suc i) xs) (sym e)
+  present : (xs : List X) (i : ℕ) → Some i ≡ position p xs → (i ≡ position_or_len p xs) × (position_or_len p xs < length xs)
+  present xs i e = elim (cases_lt (position_or_len p xs) (length xs)) [
+    | inl h ↦ let s : position p xs ≡ Some (position_or_len p xs) = rw (lt-ltb (position_or_len p xs) (length xs) h) refl in ((cc), h)
+    | inr h ↦ let s : position p xs ≡ None = rw (le-ltb (position_or_len p xs) (length xs) h) refl in cc
+  ]
 
-  module _ (p : X → Bool) (t : p x ≡ true) where
-    among_at : Among x (pick p xs)
-    among_at = subst (λ l. Among x (pick p l)) (sym split) (among_mid p (take i xs) (drop (suc i) xs) x t)
+  -- the place of the one that passes
+  pub taken_out : (xs : List X) (i : ℕ) → Some i ≡ position p xs → cnt p xs ≤ 1 → (i < length xs) × (remove xs i ≡ cut p xs) × ((d : X) → get_or xs i d ∷ [] ≡ pick p xs)
+  taken_out xs i e one =
+      let h = present xs i e in
+      (omega arith, ap (remove xs) h.0 ∙ cut_first xs one h.1, λ d. ap (λ k. get_or xs k d ∷ []) h.0 ∙ pick_first xs d one h.1)
 
-    cut_removed : cut p (remove xs i) ≡ cut p xs
-    cut_removed = cut_less p (take i xs) (drop (suc i) xs) x t ∙ ap (cut p) (sym split)
+  -- a row was picked exactly where one passes
+  pub lone_has : (o : Option X) (xs : List X) → lone o ≡ pick p xs → is_some o ≡ has p xs
+  lone_has (Some x) xs e = sym (cnt_has p xs (omega (arith, length_pick p xs, ap length e)))
+  lone_has None xs e = sym (cnt_hasnt p xs (omega (arith, length_pick p xs, ap length e)))
 
-    pick_at : cnt p xs ≤ 1 → pick p xs ≡ x ∷ []
-    pick_at one = ap (pick p) split ∙ pick_mid p (take i xs) (drop (suc i) xs) x t (omega (arith, ap (cnt p) split))
+module _ {X : Type 0} where
+  insert_more : (x : X) (xs : List X) (i : ℕ) (r : X) → insert (x ∷ xs) (1 + i) r ≡ x ∷ insert xs i r
+  insert_more x xs i r = let e : 1 + i ≡ suc i = omega arith in ap (λ k. insert (x ∷ xs) k r) e
 
--- what stands at a place of a part passes, as it does in the whole
-module _ {X : Type 0} (p : X → Bool) (rows ys : List X) (n i : ℕ) (x : X) (part : ys ≡ take n rows) (le : n ≤ length rows)
-    (lt : i < length ys) (e : x ≡ get_or rows i x) (t : (d : X) → p (get_or ys i d) ≡ true) where
-  below : i < n
-  below = omega (arith, ap length part, length-take-le n rows le)
-
-  here : x ≡ get_or (take n rows) i x
-  here = e ∙ sym (get_or-take n rows i x below)
-
-  passes : p x ≡ true
-  passes = ap p (here ∙ ap (λ l. get_or l i x) (sym part)) ∙ t x
-
-  within : i < length (take n rows)
-  within = omega (arith, ap length part)
-
-  pub among : Among x (pick p (take n rows))
-  among = among_at (take n rows) i x within here p passes
-
-  pub picked : cnt p (take n rows) ≤ 1 → pick p (take n rows) ≡ x ∷ []
-  picked = pick_at (take n rows) i x within here p passes
-
--- taking out one that passes changes nothing of those that do not
-pub cut_there : {X : Type 0} (p : X → Bool) (xs : List X) (i : ℕ) → i < length xs → ((d : X) → p (get_or xs i d) ≡ true) → cut p (remove xs i) ≡ cut p xs
-cut_there p [] i h t = let z : ⊥ = omega arith in absurd z
-cut_there p (d ∷ xs) i h t = cut_removed (d ∷ xs) i (get_or (d ∷ xs) i d) h (get_or_default (d ∷ xs) i d _ h) p (t d)
-
--- one turn of the look for a row's place, and its two ends
-module _ {X : Type 0} (rank : X → ℕ) (r : X) (xs : List X) (i : ℕ) (inv : put rank r xs ≡ take i xs ++ put rank r (drop i xs)) where
-  pub place_end : length xs ≤ i → put rank r xs ≡ insert xs i r
-  place_end h = inv ∙ ap (λ l. take i xs ++ l) (ap (put rank r) (drop_all i xs h) ∙ ap (λ l. r ∷ l) (sym (drop_all i xs h)))
-
-  module _ (x : X) (h : i < length xs) (e : x ≡ get_or xs i x) where
-    rest : drop i xs ≡ x ∷ drop (i + 1) xs
-    rest = drop_more xs i x h ∙ ap (λ y. y ∷ drop (i + 1) xs) (sym e)
-
-    pub place_here : rank r < rank x → put rank r xs ≡ insert xs i r
-    place_here lt = inv ∙ ap (λ l. take i xs ++ l) (ap (put rank r) rest ∙ (let s : cond (leb (rank x) (rank r)) (x ∷ put rank r (drop (i + 1) xs)) (r ∷ x ∷ drop (i + 1) xs) ≡ r ∷ x ∷ drop (i + 1) xs = grind (arith, nat_tests) in s) ∙ ap (λ l. r ∷ l) (sym rest))
-
-    pub place_more : rank x ≤ rank r → put rank r xs ≡ take (i + 1) xs ++ put rank r (drop (i + 1) xs)
-    place_more le = inv ∙ ap (λ l. take i xs ++ l) (ap (put rank r) rest ∙ (let s : cond (leb (rank x) (rank r)) (x ∷ put rank r (drop (i + 1) xs)) (r ∷ x ∷ drop (i + 1) xs) ≡ x ∷ put rank r (drop (i + 1) xs) = grind (arith, nat_tests) in s))
-        ∙ (sym (append_assoc (take i xs) (x ∷ []) (put rank r (drop (i + 1) xs))) ∙ ap (λ l. l ++ put rank r (drop (i + 1) xs)) (ap (λ y. take i xs ++ y ∷ []) e ∙ sym (take_more xs i x h)))
+  -- a row's place is behind those of its rank or lower that stand in front
+  pub put_first : (rank : X → ℕ) (r : X) (xs : List X) → put rank r xs ≡ insert xs (prefix_len (λ x. leb (rank x) (rank r)) xs) r
+  put_first rank r [] = refl
+  put_first rank r (x ∷ xs) = elim (cases_Bool (leb (rank x) (rank r))) [
+    | inl t ↦ let ih = put_first rank r xs in let m = insert_more x xs (prefix_len (λ x. leb (rank x) (rank r)) xs) r in rw t (ap (λ l. x ∷ l) ih ∙ sym m)
+    | inr f ↦ rw f refl
+  ]

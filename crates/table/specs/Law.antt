@@ -1,10 +1,13 @@
 -- What holds of every table of a kind of row, whatever was put in and taken out.
 use Rattle.std.specs.Prelude.{◌≡◌, ℕ, ◌+◌, Bool, true, false, not, ◌&&◌, List, [], ◌∷◌, ◌++◌, length}
+use Rattle.std.specs.Cmp.{IsEquivalence}
 use Rattle.table.specs.Count.{bit, cnt, cut, put, pick}
-use Rattle.table.specs.Held.{of, Single, entered}
+use Rattle.table.specs.Keyed.{of, Single, entered}
 use Rattle.table.specs.Order.{Ordered}
 
 pub record Stands {K R : Type 0} (same : K → K → Bool) (key : R → K) (rank : R → ℕ) : Type 0 where
+  -- what tells keys apart is reflexive, symmetric and transitive
+  pub equal : IsEquivalence same
   -- a key is in a table at most once: at first, after a row is put in, after one is taken out
   pub single_none : Single same key []
   pub single_put : (r : R) (xs : List R) → Single same key xs → Single same key (entered same key rank r xs)

@@ -1,4 +1,5 @@
 pub mod Count
+pub mod Keyed
 pub mod Held
 pub mod Order
 pub mod Law

@@ -1,4 +1,4 @@
-ghost use Rattle.std.specs.Prelude.{◌≡◌, ℕ, min, [], length, Some, None};
+ghost use Rattle.std.specs.Prelude.{◌≡◌, ℕ, ◌+◌, min, [], length, Some, None};
 ghost use Rattle.table.specs.Held.{listed, room};
 ghost use Rattle.table.proofs.Rooms.{room_most};
 ghost use Rattle.trace.specs.declared.Label.TheVariants.{Text};
@@ -21,6 +21,26 @@ impl<'a> ByBinary<'a> {
             known: Table::over(rows),
         }
     }
+
+    // The process of a binary that has one.
+    fn process_of(&self, binary: u32) -> Option<u32>
+        ensures { result ≡ process_in (listed self.now.known) binary }
+    {
+        self.known.get(binary).map(|row| row.process)
+    }
+
+    // The process that a new binary gets, while a row is free.
+    fn next(&self) -> u32
+        ensures { result ≡ 2 + length (listed self.now.known) }
+    {
+        FIRST + self.known.count() as u32
+    }
+
+    fn offer(&self) -> Option<u32>
+        ensures { result ≡ offer_in (length (listed self.now.known)) (room self.now.known) }
+    {
+        (self.known.free() > 0).then_some(self.next())
+    }
 }
 
 // The lowest process of tests: 0 is the run's, 1 that of setup scripts.
@@ -40,27 +60,16 @@ impl<'a> Grouping for ByBinary<'a> {
     ghost offered = { λ g id p e. offer_ranged (length (listed g.known)) (room g.known) p (room_most g.known) e };
 
     fn process_for(&self, binary: u32, id: &[u8]) -> Option<u32> {
-        match self.known.get(binary) {
-            Some(row) => Some(row.process),
-            None => {
-                if self.known.free() > 0 {
-                    Some(FIRST + self.known.count() as u32)
-                } else {
-                    None
-                }
-            }
-        }
+        self.process_of(binary).or(self.offer())
     }
 
     fn learn(&mut self, binary: u32, id: &[u8]) -> Result<u32, Refusal> {
-        if let Some(row) = self.known.get(binary) {
-            return Ok(row.process);
+        if let Some(process) = self.process_of(binary) {
+            return Ok(process);
         }
-        let process = FIRST + self.known.count() as u32;
-        match self.known.insert(KnownBinary { binary, process }) {
-            Ok(_) => Ok(process),
-            Err(refusal) => Err(refusal),
-        }
+        let process = self.next();
+        self.known.insert(KnownBinary { binary, process })?;
+        Ok(process)
     }
 
     fn label_for(&self, binary: u32, id: &[u8], test: u32) -> Label {

@@ -1,51 +1,54 @@
-use Rattle.std.proofs.Common.{◌≡◌, ◌+◌, min, length, take, sym, refl, ap, ◌∙◌, subst, ap₂, arith}
-use borrow.Rule.Slice.Mut.{set_vals}
+use Rattle.std.proofs.Common.{◌≡◌, ◌≤◌, length, sym, refl, ap, ◌∙◌, subst, arith}
 use Rattle.std.proofs.lemmas.List.{length-take-le}
-use Rattle.table.specs.Count.{cut, put}
-use Rattle.table.specs.Held.{of, entered, listed, room, most, Single}
+use Rattle.table.specs.Count.{has, cut, put}
+use Rattle.table.specs.Keyed.{of, Single}
+use Rattle.table.specs.Held.{listed, room}
 use Rattle.table.proofs.Laws.{stands}
-use Rattle.table.proofs.Rooms.{taken, full, all_stay, listed_fits, room_most}
+use Rattle.table.proofs.Rooms.{taken, none_gone, full, listed_fits}
+use Rattle.table.proofs.Picks.{lone_has}
 use Rattle.table.proofs.Table.insert.Goals as goal
 
+pub returns-then-free-eq0 : goal.returns-then-free-eq0
+returns-then-free-eq0 g c =
+    let of_key = of g.R.Key.PartialEq.eq g.R.Row.key_of in
+    let p = of_key (g.R.Row.key_of c.args.row) in
+    let t = c.args.self.now in
+    let xs = listed t in
+    let out : listed c.remove.new.self ≡ cut p xs = c.remove.ensures.after ∙ ap (λ k. cut (of_key k) xs) c.key.ensures in
+    let up : room t ≤ length (cut p xs) = omega (arith, ap length out) in
+    record {
+      decides = sym (full p xs (room t) up (listed_fits t));
+      after = (refl, c.remove.ensures.missing (lone_has (of_key c.key.result) _ xs c.remove.ensures.answer ∙ (ap (λ k. has (of_key k) xs) c.key.ensures ∙ none_gone p xs (room t) up (listed_fits t))));
+      places = c.remove.ensures.places;
+    }
+
 pub put_in-requires : goal.put_in-requires
-put_in-requires g c = omega arith
-
-pub returns-then-m-places : goal.returns-then-m-places
 unfolding listed room
-returns-then-m-places g c =
-    let same = g.R.Row.same in
+put_in-requires g c = let u = c.remove.new.self in omega (arith, length-take-le u.len u.rows.now u.inside)
+
+pub invariant_of-self : goal.invariant_of-self
+unfolding listed room
+invariant_of-self g c =
+    let same = g.R.Key.PartialEq.eq in
     let key = g.R.Row.key_of in
-    let rank = g.R.Row.rank_of in
-    let laws = stands same key rank g.met.R.Row.reflexive g.met.R.Row.symmetric g.met.R.Row.transitive in
     let row = c.args.row in
-    let t = c.args.self.now in
-    let m = c.drop_all-m.result in
-    let ys = c.drop_all-m.new.rows in
-    let zs = c.put_in.new.rows in
-    let d : take m ys ≡ cut (of same key (key row)) (listed t) = c.drop_all-m.ensures.after ∙ ap₂ (λ k l. cut (of same key k) l) c.key.ensures c.used-n.ensures.part in
-    let k : min (m + 1) most ≡ m + 1 = omega (arith, room_most t) in
-    let s : take (min (m + 1) most) zs ≡ entered same key rank row (listed t) = ap (λ n. take n zs) k ∙ (c.put_in.ensures ∙ ap (put rank row) d) in
+    let u = c.remove.new.self in
+    let n = length-take-le u.len u.rows.now u.inside in
+    let in_place = c.put_in.ensures ∙ ap (put g.R.Row.rank_of row) (c.remove.ensures.after ∙ ap (λ k. cut (of same key k) (listed c.args.self.now)) c.key.ensures) in
     record {
-      decides = sym (taken (of same key (key row)) (listed t) (room t) (omega (arith, ap length d, length-take-le m ys (omega arith))));
-      after = s;
-      single = λ h. subst (Single same key) (sym s) (laws.single_put row (listed t) h);
-      places = omega arith;
+      inside = omega (arith, n);
+      limit = omega (arith, n);
+      single = subst (Single same key) (sym in_place) ((stands same key g.R.Row.rank_of g.met.R.Key.Eq.laws).single_put row (listed c.args.self.now) c.args.self.now.single);
     }
 
-pub returns-else-m-places : goal.returns-else-m-places
-returns-else-m-places g c =
-    let same = g.R.Row.same in
-    let key = g.R.Row.key_of in
-    let p = of same key (key c.args.row) in
-    let t = c.args.self.now in
-    let m : c.drop_all-m.result ≡ c.used-n.result = omega arith in
-    let e : c.drop_all-m.new.rows ≡ t.rows.now = c.drop_all-m.ensures.kept m in
-    let d : take c.drop_all-m.result c.drop_all-m.new.rows ≡ cut p (listed t) = c.drop_all-m.ensures.after ∙ ap₂ (λ k l. cut (of same key k) l) c.key.ensures c.used-n.ensures.part in
-    let f : listed t ≡ cut p (listed t) = sym c.used-n.ensures.part ∙ (ap₂ take (sym m) (sym e) ∙ d) in
-    let u : record { rows = set_vals c.drop_all-m.new.rows t.rows; len = t.len } ≡ t = ap (λ l. record { rows = set_vals l t.rows; len = t.len }) e in
-    record {
-      decides = sym (full p (listed t) (room t) (all_stay p (listed t) (room t) (omega (arith, ap length f)) (listed_fits t)) (omega arith));
-      after = (refl, u);
-      single = λ h. subst (λ s. Single same key (listed s)) (sym u) h;
-      places = ap room u;
-    }
+pub returns-clause-decides : goal.returns-clause-decides
+returns-clause-decides g c =
+    let of_key = of g.R.Key.PartialEq.eq g.R.Row.key_of in
+    let xs = listed c.args.self.now in
+    let out : listed c.remove.new.self ≡ cut (of_key (g.R.Row.key_of c.args.row)) xs = c.remove.ensures.after ∙ ap (λ k. cut (of_key k) xs) c.key.ensures in
+    sym (taken _ xs (room c.args.self.now) (omega (arith, ap length out)))
+
+pub returns-clause-after : goal.returns-clause-after
+unfolding listed
+returns-clause-after g c =
+    c.put_in.ensures ∙ ap (put g.R.Row.rank_of c.args.row) (c.remove.ensures.after ∙ ap (λ k. cut (of g.R.Key.PartialEq.eq g.R.Row.key_of k) (listed c.args.self.now)) c.key.ensures)

@@ -1,40 +1,44 @@
-use Rattle.std.proofs.Common.{◌≡◌, min, take, sym, refl, ap, ◌∙◌, subst, arith}
-use Rattle.std.proofs.lemmas.Bool.{true≢false}
-use Rattle.table.specs.Count.{cut}
-use Rattle.table.specs.Held.{of, listed, room, most, Single}
-use Rattle.table.proofs.Counts.{cut_none, unpicked}
-use Rattle.table.proofs.Laws.{stands}
-use Rattle.table.proofs.Rooms.{room_most}
+use Rattle.std.proofs.Common.{[], ◌∷◌, sym, ap, ◌∙◌, subst, arith}
+use Rattle.std.specs.List.{position}
+use Rattle.std.proofs.lemmas.List.{get_or-take, length-take-le}
+use Rattle.table.specs.Keyed.{lone, of, Single}
+use Rattle.table.specs.Held.{listed}
+use Rattle.table.proofs.Counts.{pick_none, cut_none, cnt_cut_le}
+use Rattle.table.proofs.Picks.{absent, taken_out}
 use Rattle.table.proofs.Table.remove.Goals as goal
 
-pub returns-in_default : goal.returns-in_default
-returns-in_default g c =
-    let p = of g.R.Row.same g.R.Row.key_of c.args.key in
-    let xs = listed c.args.self.now in
-    record {
-      found = c.in_default.ensures.found;
-      answer = c.in_default.ensures.answer;
-      after = sym (cut_none p xs (unpicked p xs c.in_default.ensures.found));
-      missing = λ _. refl;
-      single = λ h. h;
-      places = refl;
-    }
+pub returns-in_err-place-clause-answer : goal.returns-in_err-place-clause-answer
+returns-in_err-place-clause-answer g c =
+    let p = of g.R.Key.PartialEq.eq g.R.Row.key_of c.args.key in
+    ap lone c.from_residual.ensures ∙ sym (pick_none p _ (absent p _ (c.in_err-place.ensures ∙ ap (position p) c.as_slice.ensures)))
 
-pub returns : goal.returns
-unfolding listed room
-returns g c =
-    let same = g.R.Row.same in
+pub returns-in_err-place-clause-after : goal.returns-in_err-place-clause-after
+returns-in_err-place-clause-after g c =
+    let p = of g.R.Key.PartialEq.eq g.R.Row.key_of c.args.key in
+    sym (cut_none p _ (absent p _ (c.in_err-place.ensures ∙ ap (position p) c.as_slice.ensures)))
+
+pub invariant_of-self-clause-single : goal.invariant_of-self-clause-single
+unfolding listed
+invariant_of-self-clause-single g c =
+    let same = g.R.Key.PartialEq.eq in
     let key = g.R.Row.key_of in
-    let laws = stands same key g.R.Row.rank_of g.met.R.Row.reflexive g.met.R.Row.symmetric g.met.R.Row.transitive in
     let p = of same key c.args.key in
-    let m = c.drop_all-self.result in
-    let k : min m most ≡ m = omega (arith, room_most c.args.self.now) in
-    let s : take (min m most) c.drop_all-self.new.rows ≡ cut p (listed c.args.self.now) = ap (λ n. take n c.drop_all-self.new.rows) k ∙ (c.drop_all-self.ensures.after ∙ ap (cut p) c.used-n.ensures.part) in
-    record {
-      found = c.in-Some.ensures.found;
-      answer = c.in-Some.ensures.answer;
-      after = s;
-      missing = λ e. absurd (true≢false e);
-      single = λ h. subst (Single same key) (sym s) (laws.single_cut c.args.key _ h);
-      places = omega arith;
-    }
+    let t = c.args.self.now in
+    let out = taken_out p (listed t) _ (c.in_ok-place.ensures ∙ ap (position p) c.as_slice.ensures) (t.single c.args.key) in
+    subst (Single same key) (sym (c.close.ensures ∙ out.1)) (λ k. omega (arith, cnt_cut_le (of same key k) p (listed t), t.single k))
+
+pub returns-clause-answer : goal.returns-clause-answer
+unfolding listed
+returns-clause-answer g c =
+    let p = of g.R.Key.PartialEq.eq g.R.Row.key_of c.args.key in
+    let t = c.args.self.now in
+    let out = taken_out p (listed t) _ (c.in_ok-place.ensures ∙ ap (position p) c.as_slice.ensures) (t.single c.args.key) in
+    ap (λ x. x ∷ []) (sym (get_or-take t.len t.rows.now _ _ (omega (arith, out.0, length-take-le t.len t.rows.now t.inside)))) ∙ out.2 _
+
+pub returns-clause-after : goal.returns-clause-after
+unfolding listed
+returns-clause-after g c =
+    let p = of g.R.Key.PartialEq.eq g.R.Row.key_of c.args.key in
+    let t = c.args.self.now in
+    let out = taken_out p (listed t) _ (c.in_ok-place.ensures ∙ ap (position p) c.as_slice.ensures) (t.single c.args.key) in
+    c.close.ensures ∙ out.1
