@@ -2,183 +2,148 @@
 #![tactic(auto)]
 
 ghost use Rattle.std.specs.Prelude.{◌≡◌};
-ghost use Rattle.words.specs.Words.{book_text};
-ghost use Rattle.shapes.specs.Shapes.{text_member, number_member, flag_member, display_member, test_members, run_instant_args, cancel_args, test_begin_args, retry_begin_args, test_end_args, test_slow_args, script_end_args, script_slow_args, running_counts_args, result_counts_args, metadata_name_args, sort_index_args, arguments_text};
+ghost use Rattle.words.specs.Writing.{Adds};
+ghost use Rattle.shapes.specs.Shapes.{text_member, number_member, flag_member, display_member, test_members, run_instant_members, cancel_members, retry_begin_members, test_end_members, test_slow_members, script_members, running_counts_members, result_counts_members, members_text, arguments_text};
 ghost use Rattle.shapes.specs.Laws.{ArgumentsShown};
 
-use names::NameBook;
-use outs::{Out, number};
-use trace::ARGUMENTS;
-use words::{display, flag, text};
+use outs::Out;
+use trace::{ARGUMENTS, ArgumentKind};
+use words::Writer;
 
-fn text_member<O: Out>(o: &mut O, book: &NameBook, key: &[u8], n: u64)
-    ensures { O.added o.old (text_member (book_text book.now) key.now n) o.new }
+fn text_member<O: Out>(w: &mut Writer<O>, key: &[u8], n: u64)
+    ensures { Adds O.Out w.old (λ show. text_member show key.now n) w.new }
 {
-    o.put(key);
-    text(o, book, n);
-    o.put(b"\"");
+    w.put(key);
+    w.text(n);
+    w.put(b"\"");
 }
 
-fn number_member<O: Out>(o: &mut O, key: &[u8], n: u64)
-    ensures { O.added o.old (number_member key.now n) o.new }
+fn number_member<O: Out>(w: &mut Writer<O>, key: &[u8], n: u64)
+    ensures { Adds O.Out w.old (λ _. number_member key.now n) w.new }
 {
-    o.put(key);
-    number(o, n);
+    w.put(key);
+    w.number(n);
 }
 
-fn flag_member<O: Out>(o: &mut O, key: &[u8], n: u64)
-    ensures { O.added o.old (flag_member key.now n) o.new }
+fn flag_member<O: Out>(w: &mut Writer<O>, key: &[u8], n: u64)
+    ensures { Adds O.Out w.old (λ _. flag_member key.now n) w.new }
 {
-    o.put(key);
-    flag(o, n);
+    w.put(key);
+    w.flag(n);
 }
 
-fn display_member<O: Out>(o: &mut O, book: &NameBook, key: &[u8], code: u64, n: u64)
-    ensures { O.added o.old (display_member (book_text book.now) key.now code n) o.new }
+fn display_member<O: Out>(w: &mut Writer<O>, key: &[u8], code: u64, n: u64)
+    ensures { Adds O.Out w.old (λ show. display_member show key.now code n) w.new }
 {
-    o.put(key);
-    display(o, book, code, n);
-    o.put(b"\"");
+    w.put(key);
+    w.display(code, n);
+    w.put(b"\"");
 }
 
 // Which test it is.
-fn test_members<O: Out>(o: &mut O, book: &NameBook, binary: u64, test: u64)
-    ensures { O.added o.old (test_members (book_text book.now) binary test) o.new }
+fn test_members<O: Out>(w: &mut Writer<O>, binary: u64, test: u64)
+    ensures { Adds O.Out w.old (λ show. test_members show binary test) w.new }
 {
-    text_member(o, book, b"\"binary_id\":\"", binary);
-    text_member(o, book, b",\"test_name\":\"", test);
+    text_member(w, b"\"binary_id\":\"", binary);
+    text_member(w, b",\"test_name\":\"", test);
 }
 
-fn run_instant_args<O: Out>(o: &mut O, ns: &[u64; ARGUMENTS])
-    ensures { O.added o.old (run_instant_args ns.now) o.new }
+fn run_instant_members<O: Out>(w: &mut Writer<O>, ns: &[u64; ARGUMENTS])
+    ensures { Adds O.Out w.old (λ _. run_instant_members ns.now) w.new }
 {
-    o.put(b",\"args\":{");
-    number_member(o, b"\"running\":", ns[0]);
-    number_member(o, b",\"setup_scripts_running\":", ns[1]);
-    o.put(b"}");
+    number_member(w, b"\"running\":", ns[0]);
+    number_member(w, b",\"setup_scripts_running\":", ns[1]);
 }
 
-fn cancel_args<O: Out>(o: &mut O, book: &NameBook, ns: &[u64; ARGUMENTS])
-    ensures { O.added o.old (cancel_args (book_text book.now) ns.now) o.new }
+fn cancel_members<O: Out>(w: &mut Writer<O>, ns: &[u64; ARGUMENTS])
+    ensures { Adds O.Out w.old (λ show. cancel_members show ns.now) w.new }
 {
-    o.put(b",\"args\":{");
-    number_member(o, b"\"running\":", ns[0]);
-    number_member(o, b",\"setup_scripts_running\":", ns[1]);
-    text_member(o, book, b",\"reason\":\"", ns[2]);
-    o.put(b"}");
+    number_member(w, b"\"running\":", ns[0]);
+    number_member(w, b",\"setup_scripts_running\":", ns[1]);
+    text_member(w, b",\"reason\":\"", ns[2]);
 }
 
-fn test_begin_args<O: Out>(o: &mut O, book: &NameBook, ns: &[u64; ARGUMENTS])
-    ensures { O.added o.old (test_begin_args (book_text book.now) ns.now) o.new }
+fn retry_begin_members<O: Out>(w: &mut Writer<O>, ns: &[u64; ARGUMENTS])
+    ensures { Adds O.Out w.old (λ show. retry_begin_members show ns.now) w.new }
 {
-    o.put(b",\"args\":{");
-    test_members(o, book, ns[0], ns[1]);
-    o.put(b"}");
+    test_members(w, ns[0], ns[1]);
+    number_member(w, b",\"attempt\":", ns[2]);
+    number_member(w, b",\"total_attempts\":", ns[3]);
 }
 
-fn retry_begin_args<O: Out>(o: &mut O, book: &NameBook, ns: &[u64; ARGUMENTS])
-    ensures { O.added o.old (retry_begin_args (book_text book.now) ns.now) o.new }
+fn test_end_members<O: Out>(w: &mut Writer<O>, ns: &[u64; ARGUMENTS])
+    ensures { Adds O.Out w.old (λ show. test_end_members show ns.now) w.new }
 {
-    o.put(b",\"args\":{");
-    test_members(o, book, ns[0], ns[1]);
-    number_member(o, b",\"attempt\":", ns[2]);
-    number_member(o, b",\"total_attempts\":", ns[3]);
-    o.put(b"}");
+    test_members(w, ns[0], ns[1]);
+    number_member(w, b",\"attempt\":", ns[4]);
+    number_member(w, b",\"total_attempts\":", ns[5]);
+    flag_member(w, b",\"is_slow\":", ns[6]);
 }
 
-fn test_end_args<O: Out>(o: &mut O, book: &NameBook, ns: &[u64; ARGUMENTS])
-    ensures { O.added o.old (test_end_args (book_text book.now) ns.now) o.new }
+fn test_slow_members<O: Out>(w: &mut Writer<O>, ns: &[u64; ARGUMENTS])
+    ensures { Adds O.Out w.old (λ show. test_slow_members show ns.now) w.new }
 {
-    o.put(b",\"args\":{");
-    test_members(o, book, ns[0], ns[1]);
-    number_member(o, b",\"attempt\":", ns[4]);
-    number_member(o, b",\"total_attempts\":", ns[5]);
-    flag_member(o, b",\"is_slow\":", ns[6]);
-    o.put(b"}");
+    test_members(w, ns[0], ns[1]);
+    flag_member(w, b",\"will_terminate\":", ns[4]);
+    number_member(w, b",\"attempt\":", ns[5]);
 }
 
-fn test_slow_args<O: Out>(o: &mut O, book: &NameBook, ns: &[u64; ARGUMENTS])
-    ensures { O.added o.old (test_slow_args (book_text book.now) ns.now) o.new }
+// Which setup script it is, and a flag of it.
+fn script_members<O: Out>(w: &mut Writer<O>, flag: &[u8], ns: &[u64; ARGUMENTS])
+    ensures { Adds O.Out w.old (λ show. script_members show flag.now ns.now) w.new }
 {
-    o.put(b",\"args\":{");
-    test_members(o, book, ns[0], ns[1]);
-    flag_member(o, b",\"will_terminate\":", ns[4]);
-    number_member(o, b",\"attempt\":", ns[5]);
-    o.put(b"}");
+    text_member(w, b"\"script_id\":\"", ns[0]);
+    flag_member(w, flag, ns[3]);
 }
 
-fn script_end_args<O: Out>(o: &mut O, book: &NameBook, ns: &[u64; ARGUMENTS])
-    ensures { O.added o.old (script_end_args (book_text book.now) ns.now) o.new }
+fn running_counts_members<O: Out>(w: &mut Writer<O>, ns: &[u64; ARGUMENTS])
+    ensures { Adds O.Out w.old (λ _. running_counts_members ns.now) w.new }
 {
-    o.put(b",\"args\":{");
-    text_member(o, book, b"\"script_id\":\"", ns[0]);
-    flag_member(o, b",\"is_slow\":", ns[3]);
-    o.put(b"}");
+    number_member(w, b"\"running_tests\":", ns[0]);
+    number_member(w, b",\"running_scripts\":", ns[1]);
 }
 
-fn script_slow_args<O: Out>(o: &mut O, book: &NameBook, ns: &[u64; ARGUMENTS])
-    ensures { O.added o.old (script_slow_args (book_text book.now) ns.now) o.new }
+fn result_counts_members<O: Out>(w: &mut Writer<O>, ns: &[u64; ARGUMENTS])
+    ensures { Adds O.Out w.old (λ _. result_counts_members ns.now) w.new }
 {
-    o.put(b",\"args\":{");
-    text_member(o, book, b"\"script_id\":\"", ns[0]);
-    flag_member(o, b",\"will_terminate\":", ns[3]);
-    o.put(b"}");
+    number_member(w, b"\"passed\":", ns[0]);
+    number_member(w, b",\"flaky\":", ns[1]);
+    number_member(w, b",\"failed\":", ns[2]);
 }
 
-fn running_counts_args<O: Out>(o: &mut O, ns: &[u64; ARGUMENTS])
-    ensures { O.added o.old (running_counts_args ns.now) o.new }
-{
-    o.put(b",\"args\":{");
-    number_member(o, b"\"running_tests\":", ns[0]);
-    number_member(o, b",\"running_scripts\":", ns[1]);
-    o.put(b"}");
-}
-
-fn result_counts_args<O: Out>(o: &mut O, ns: &[u64; ARGUMENTS])
-    ensures { O.added o.old (result_counts_args ns.now) o.new }
-{
-    o.put(b",\"args\":{");
-    number_member(o, b"\"passed\":", ns[0]);
-    number_member(o, b",\"flaky\":", ns[1]);
-    number_member(o, b",\"failed\":", ns[2]);
-    o.put(b"}");
-}
-
-fn metadata_name_args<O: Out>(o: &mut O, book: &NameBook, ns: &[u64; ARGUMENTS])
-    ensures { O.added o.old (metadata_name_args (book_text book.now) ns.now) o.new }
-{
-    o.put(b",\"args\":{");
-    display_member(o, book, b"\"name\":\"", ns[0], ns[1]);
-    o.put(b"}");
-}
-
-fn sort_index_args<O: Out>(o: &mut O, ns: &[u64; ARGUMENTS])
-    ensures { O.added o.old (sort_index_args ns.now) o.new }
-{
-    o.put(b",\"args\":{");
-    number_member(o, b"\"sort_index\":", ns[0]);
-    o.put(b"}");
-}
-
-// The member args, by the kind of the arguments.
-pub fn arguments<O: Out>(o: &mut O, book: &NameBook, kind: u64, ns: &[u64; ARGUMENTS])
-    ensures { O.added o.old (arguments_text (book_text book.now) kind ns.now) o.new }
+// The members, by the kind of the arguments.
+fn members<O: Out>(w: &mut Writer<O>, kind: ArgumentKind, ns: &[u64; ARGUMENTS])
+    ensures { Adds O.Out w.old (λ show. members_text show kind ns.now) w.new }
 {
     match kind {
-        0 => {}
-        1 => run_instant_args(o, ns),
-        2 => cancel_args(o, book, ns),
-        3 => test_begin_args(o, book, ns),
-        4 => retry_begin_args(o, book, ns),
-        5 => test_end_args(o, book, ns),
-        6 => test_slow_args(o, book, ns),
-        7 => script_end_args(o, book, ns),
-        8 => script_slow_args(o, book, ns),
-        9 => running_counts_args(o, ns),
-        10 => result_counts_args(o, ns),
-        11 => metadata_name_args(o, book, ns),
-        12 => sort_index_args(o, ns),
-        _ => o.refuse(),
+        ArgumentKind::Absent => {}
+        ArgumentKind::RunInstant => run_instant_members(w, ns),
+        ArgumentKind::CancelInstant => cancel_members(w, ns),
+        ArgumentKind::TestBegin => test_members(w, ns[0], ns[1]),
+        ArgumentKind::RetryBegin => retry_begin_members(w, ns),
+        ArgumentKind::TestEnd => test_end_members(w, ns),
+        ArgumentKind::TestSlow => test_slow_members(w, ns),
+        ArgumentKind::ScriptEnd => script_members(w, b",\"is_slow\":", ns),
+        ArgumentKind::ScriptSlow => script_members(w, b",\"will_terminate\":", ns),
+        ArgumentKind::RunningCounts => running_counts_members(w, ns),
+        ArgumentKind::ResultCounts => result_counts_members(w, ns),
+        ArgumentKind::MetadataName => display_member(w, b"\"name\":\"", ns[0], ns[1]),
+        ArgumentKind::SortIndex => number_member(w, b"\"sort_index\":", ns[0]),
+    }
+}
+
+// The member args, by the code of the arguments' kind.
+pub fn arguments<O: Out>(w: &mut Writer<O>, code: u64, ns: &[u64; ARGUMENTS])
+    ensures { Adds O.Out w.old (λ show. arguments_text show code ns.now) w.new }
+{
+    match ArgumentKind::try_from(code) {
+        Ok(ArgumentKind::Absent) => {}
+        Ok(kind) => {
+            w.put(b",\"args\":{");
+            members(w, kind, ns);
+            w.put(b"}");
+        }
+        Err(_) => w.refuse(),
     }
 }
 

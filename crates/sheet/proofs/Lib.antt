@@ -7,3 +7,4 @@ pub mod Whole
 pub mod Bodies
 pub mod Readings
 pub mod Back
+pub mod Moves

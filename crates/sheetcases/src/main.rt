@@ -1,17 +1,29 @@
 // Holds the reader against run sheets, sound and damaged, whose answers were worked out without it.
 #![tactic(auto)]
 
+ghost use Rattle.std.specs.Prelude.{◌<◌, length, IfSome};
+
 use account::whole::account;
-use anyhow::anyhow;
-use columns::read_unsigned;
+use anyhow::Context;
+use columns::read;
 use std::fs;
 
-// The answer that is wanted of a sheet, or that came.
+// What is wanted of a sheet, or what came of it.
 #[derive(Clone, Copy, PartialEq, Eq)]
-struct Answer {
-    line: u64,
-    column: u64,
-    number: u64,
+enum Answer {
+    // so many lines, and no fault
+    Whole(u64),
+    Faulty { line: u64, column: u64, number: u64 },
+}
+
+impl Answer {
+    // The number of the refusal, 0 where there is none.
+    fn number(self) -> u64 {
+        match self {
+            Answer::Whole(_) => 0,
+            Answer::Faulty { number, .. } => number,
+        }
+    }
 }
 
 #[derive(Clone, Copy)]
@@ -22,29 +34,31 @@ struct Case<'a> {
 }
 
 // One of the four numbers before a sheet.
-fn number_at(bytes: &[u8], place: usize) -> Option<u64> {
-    if place > 3 || bytes.len() < 80 {
-        return None;
-    }
-    read_unsigned(&bytes[20 * place..20 * place + 20])
+fn number_at(head: &[u8], place: usize) -> Option<u64> {
+    let start = place.checked_mul(20)?;
+    read(head.get(start..start.checked_add(20)?)?)
 }
 
-fn case_at(bytes: &[u8]) -> Option<Case<'_>> {
-    let line = number_at(bytes, 0)?;
-    let column = number_at(bytes, 1)?;
-    let number = number_at(bytes, 2)?;
-    let length = number_at(bytes, 3)? as usize;
-    if bytes.len() < 80 || bytes.len() - 80 < length {
-        return None;
-    }
-    let sheet = &bytes[80..80 + length];
-    let behind = &bytes[80 + length..bytes.len()];
-    Some(Case {
-        wanted: Answer {
+// The case that stands in front: the wanted line, column and number, the sheet's length, and the sheet.
+fn case_at(bytes: &[u8]) -> Option<Case<'_>>
+    ensures { IfSome result (λ c. length c.behind.now < length bytes.now) }
+{
+    let (head, rest) = bytes.split_at_checked(80)?;
+    let (sheet, behind) = rest.split_at_checked(number_at(head, 3)? as usize)?;
+    let wanted = match (
+        number_at(head, 0)?,
+        number_at(head, 1)?,
+        number_at(head, 2)?,
+    ) {
+        (lines, 0, 0) => Answer::Whole(lines),
+        (line, column, number) => Answer::Faulty {
             line,
             column,
             number,
         },
+    };
+    Some(Case {
+        wanted,
         sheet,
         behind,
     })
@@ -52,15 +66,11 @@ fn case_at(bytes: &[u8]) -> Option<Case<'_>> {
 
 fn read_whole(sheet: &[u8]) -> Answer {
     match account(sheet) {
-        Ok(tally) => Answer {
-            line: tally.lines,
-            column: 0,
-            number: 0,
-        },
-        Err(found) => Answer {
+        Ok(tally) => Answer::Whole(tally.lines),
+        Err(found) => Answer::Faulty {
             line: found.line,
             column: found.fault.column() as u64,
-            number: found.fault.refusal().number() as u64,
+            number: u64::from(found.fault.refusal().number()),
         },
     }
 }
@@ -70,19 +80,14 @@ fn run(rt: &HostRuntime) -> anyhow::Result<()> {
     let mut left = data.as_slice();
     let mut cases = 0u64;
     let mut differ = 0u64;
-    for _ in 0..1000000 {
-        if left.len() == 0 {
-            break;
-        }
-        let Some(case) = case_at(left) else {
-            return Err(anyhow!("the list of cases is damaged"));
-        };
+    while !left.is_empty() {
+        let case = case_at(left).context("the list of cases is damaged")?;
         let got = read_whole(case.sheet);
         cases = cases.saturating_add(1);
         if got != case.wanted {
             differ = differ.saturating_add(1);
-            let wanted = case.wanted.number;
-            let number = got.number;
+            let wanted = case.wanted.number();
+            let number = got.number();
             println!(rt; "case {cases}: number {number} where {wanted} is wanted")?;
         }
         left = case.behind;

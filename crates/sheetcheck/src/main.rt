@@ -1,7 +1,6 @@
 // Reads a run sheet on standard input, and prints an account of it or its first fault.
 #![tactic(auto)]
 
-use account::sentences::sentence;
 use account::tally::{KINDS, Tally};
 use account::whole::{SheetFault, account};
 use anyhow::anyhow;
@@ -29,10 +28,7 @@ const NAMES: [&str; KINDS] = [
 fn print_tally(rt: &HostRuntime, tally: &Tally) -> anyhow::Result<()> {
     let lines = tally.lines;
     println!(rt; "The run sheet is whole. Lines: {lines}.")?;
-    let kinds = tally.kinds;
-    for i in 0..KINDS {
-        let count = kinds[i];
-        let name = NAMES[i];
+    for (count, name) in tally.kinds.iter().zip(NAMES) {
         println!(rt; "{count:>8}  {name}")?;
     }
     if let Some(first) = tally.first {
@@ -47,11 +43,10 @@ fn print_tally(rt: &HostRuntime, tally: &Tally) -> anyhow::Result<()> {
 }
 
 fn print_fault(rt: &HostRuntime, found: &SheetFault) -> anyhow::Result<()> {
-    let line = found.line;
-    let column = found.fault.column();
-    let number = found.fault.refusal().number();
-    let words = sentence(found.fault);
-    println!(rt; "Line {line}, column {column}, refusal {number}: {words}.")?;
+    let SheetFault { line, fault } = found;
+    let column = fault.column();
+    let number = fault.refusal().number();
+    println!(rt; "Line {line}, column {column}, refusal {number}: {fault}.")?;
     Ok(())
 }
 

@@ -130,16 +130,17 @@ fn is_wanted(event: Event, line: i64) -> bool {
     is_run_event(event.kind) || is_test_event(event.kind) || is_end_event(event.kind)
 }
 
-// How many lines from the first say what is wanted, up to 1,000.
+// How many lines from the first say what is wanted.
 fn wanted_lines(sheet: &[u8]) -> i64 {
     let mut reader = SheetReader::new(sheet);
-    for line in 0..1000 {
-        match reader.next() {
-            Ok(Some(event)) if is_wanted(event, line) => {}
-            _ => return line,
+    let mut lines = 0i64;
+    while let Ok(Some(event)) = reader.next() {
+        if !is_wanted(event, lines) {
+            break;
         }
+        lines = lines.saturating_add(1);
     }
-    1000
+    lines
 }
 
 fn main(rt: HostRuntime) -> anyhow::Result<()> {

@@ -6,21 +6,7 @@ mod tests {
     use refusal::Refusal;
     use sinks::{RecordList, Sink, TraceSheet, append_all};
     use trace::makers::{begin, concurrency_counter};
-    use trace::{Arguments, Category, Label, Moment, TraceEvent};
-
-    const BLANK: TraceEvent = TraceEvent {
-        phase: 0,
-        category: 0,
-        label: 0,
-        first: 0,
-        second: 0,
-        time: 0,
-        process: 0,
-        lane: 0,
-        arrow: 0,
-        kind: 0,
-        arguments: [0; 7],
-    };
+    use trace::{Arguments, Category, Label, Timestamp, TraceEvent};
 
     // Each number as wide as it can be.
     fn widest(time: i64) -> TraceEvent {
@@ -48,7 +34,7 @@ mod tests {
     }
 
     fn counter(tests: u32) -> TraceEvent {
-        concurrency_counter(Moment { micros: -5 }, tests, 2)
+        concurrency_counter(Timestamp { micros: -5 }, tests, 2)
     }
 
     fn bar() -> TraceEvent {
@@ -57,7 +43,7 @@ mod tests {
             (2, 10_000),
             Label::TwoTexts(3, 4),
             Category::Test,
-            Moment { micros: 17 },
+            Timestamp { micros: 17 },
             arguments,
         )
     }
@@ -68,10 +54,7 @@ mod tests {
 
     // Is the event refused for want of a place?
     fn refused<S: Sink>(sink: &mut S, e: TraceEvent) -> bool {
-        match sink.append(e) {
-            Err(Refusal::SinkFull) => true,
-            _ => false,
-        }
+        sink.append(e) == Err(Refusal::SinkFull)
     }
 
     // Are there so many events, and so many places left?
@@ -81,14 +64,7 @@ mod tests {
 
     // Does this event stand at the place?
     fn holds<S: Sink>(sink: &S, place: usize, e: &TraceEvent) -> bool {
-        match sink.event_at(place) {
-            Some(there) => there == *e,
-            None => false,
-        }
-    }
-
-    fn same(x: &[u8], y: &[u8]) -> bool {
-        x == y
+        sink.event_at(place) == Some(*e)
     }
 
     #[test]
@@ -101,7 +77,7 @@ mod tests {
 
     #[test]
     fn a_full_record_list(rt: HostRuntime) {
-        let mut places = [BLANK; 2];
+        let mut places = [TraceEvent::BLANK; 2];
         let mut list = RecordList::over(&mut places);
         let fresh = sized(&list, 0, 2) & list.event_at(0).is_none();
         let both = put(&mut list, bar()) & put(&mut list, counter(1));
@@ -126,10 +102,8 @@ mod tests {
         let mut sheet = TraceSheet::over(&mut memory);
         let one = sized(&sheet, 0, 1) & put(&mut sheet, counter(3));
         let full = refused(&mut sheet, bar()) & sized(&sheet, 1, 0) & holds(&sheet, 0, &counter(3));
-        let text = same(
-            sheet.as_bytes(),
-            b"C                   4                   1                   3                   0                  -5                   0                   0                   0                   9                   3                   2                   0                   0                   0                   0                   0\n",
-        );
+        let text = sheet.as_bytes()
+            == b"C                   4                   1                   3                   0                  -5                   0                   0                   0                   9                   3                   2                   0                   0                   0                   0                   0\n".as_slice();
         assert!(rt; one & full & text);
     }
 

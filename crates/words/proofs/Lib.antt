@@ -1,2 +1,4 @@
+pub mod Codes
 pub mod Parts
+pub mod Writing
 pub mod Laws

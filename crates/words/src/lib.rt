@@ -1,181 +1,208 @@
 // What codes, labels, displays and book numbers are shown as.
 #![tactic(auto)]
 
-ghost use Rattle.std.specs.Prelude.{◌≡◌, ℕ};
+ghost use Rattle.std.specs.Prelude.{◌≡◌, Some, None};
+ghost use Rattle.names.specs.declared.book.Shown.TheVariants.{FixedWord};
 ghost use Rattle.names.specs.Book.{texts, shown_of};
-ghost use Rattle.outs.specs.Texts.{Text, shown};
-ghost use Rattle.words.specs.Words.{words, book_text, label_part, label_word, category_part, category_text, display_part, display_word, part_text, label_text, display_text, phase_text, flag_text};
+ghost use Rattle.outs.specs.Texts.{shown};
+ghost use Rattle.words.specs.Words.{words, label_word, word_part, category_part, category_text, pattern_part, operand_text, label_text, display_text, phase_text, flag_text};
 ghost use Rattle.words.specs.Laws.{WordsShown};
 
+use itoa::Integer;
 use names::{NameBook, Shown};
-use outs::{Out, escape, number};
+use outs::Out;
+use trace::{Category, LabelKind, PatternKind, Phase, Word};
 
 // All fixed words.
 const WORDS: &[u8] =
     b"nextest run (process_sort_indexthread_sort_indexprocess_namethread_namestress sub-runssetup-scriptsconcurrencytest resultsretryslowcancelpausedcontinuedscript-testsslot-";
 
-// A word, escaped: a text of the book or a part of the fixed words.
-fn show<O: Out>(o: &mut O, book: &NameBook, which: Shown)
-    ensures { O.added o.old (shown (shown_of (texts book.now) words which)) o.new }
+// A part of the fixed words.
+fn fixed(start: usize, len: usize) -> Shown
+    ensures { result ≡ FixedWord start len }
 {
-    match book.word_from(WORDS, which) {
-        Some(word) => escape(o, word),
-        None => o.refuse(),
+    Shown::FixedWord { start, len }
+}
+
+// The part that a label's word is.
+fn word_part(word: Word) -> Shown
+    ensures { result ≡ word_part word }
+{
+    match word {
+        Word::TestRun => fixed(3, 8),
+        Word::SubRun => fixed(78, 7),
+        Word::Concurrency => fixed(99, 11),
+        Word::TestResults => fixed(110, 12),
+        Word::Retry => fixed(122, 5),
+        Word::Slow => fixed(127, 4),
+        Word::Cancel => fixed(131, 6),
+        Word::Paused => fixed(137, 6),
+        Word::Continued => fixed(143, 9),
+        Word::ProcessName => fixed(48, 12),
+        Word::ProcessSortIndex => fixed(13, 18),
+        Word::ThreadName => fixed(60, 11),
+        Word::ThreadSortIndex => fixed(31, 17),
     }
 }
 
-// How a book number is shown: every text of the output comes from here.
-pub fn text<O: Out>(o: &mut O, book: &NameBook, n: u64)
-    ensures { O.added o.old (book_text book.now n) o.new }
+fn category_part(category: Category) -> Shown
+    ensures { result ≡ category_part category }
 {
-    if n <= u32::MAX as u64 {
-        show(o, book, Shown::BookText(n as u32));
-    } else {
-        o.refuse();
+    match category {
+        Category::Test => fixed(3, 4),
+        Category::SetupScript => fixed(86, 12),
+        Category::Stress => fixed(71, 6),
+        Category::Run => fixed(8, 3),
+        Category::Empty => fixed(0, 0),
     }
-}
-
-fn part<O: Out>(o: &mut O, book: &NameBook, which: Option<Shown>)
-    ensures { O.added o.old (part_text book.now which) o.new }
-{
-    match which {
-        Some(word) => show(o, book, word),
-        None => o.refuse(),
-    }
-}
-
-fn label_part(code: u64) -> Option<Shown>
-    ensures { result ≡ label_part code }
-{
-    match code {
-        1 => Some(Shown::FixedWord { start: 3, len: 8 }),
-        2 => Some(Shown::FixedWord { start: 78, len: 7 }),
-        3 => Some(Shown::FixedWord { start: 99, len: 11 }),
-        4 => Some(Shown::FixedWord {
-            start: 110,
-            len: 12,
-        }),
-        5 => Some(Shown::FixedWord { start: 122, len: 5 }),
-        6 => Some(Shown::FixedWord { start: 127, len: 4 }),
-        7 => Some(Shown::FixedWord { start: 131, len: 6 }),
-        8 => Some(Shown::FixedWord { start: 137, len: 6 }),
-        9 => Some(Shown::FixedWord { start: 143, len: 9 }),
-        10 => Some(Shown::FixedWord { start: 48, len: 12 }),
-        11 => Some(Shown::FixedWord { start: 13, len: 18 }),
-        12 => Some(Shown::FixedWord { start: 60, len: 11 }),
-        13 => Some(Shown::FixedWord { start: 31, len: 17 }),
-        _ => None,
-    }
-}
-
-fn category_part(code: u64) -> Option<Shown>
-    ensures { result ≡ category_part code }
-{
-    match code {
-        1 => Some(Shown::FixedWord { start: 3, len: 4 }),
-        2 => Some(Shown::FixedWord { start: 86, len: 12 }),
-        3 => Some(Shown::FixedWord { start: 71, len: 6 }),
-        4 => Some(Shown::FixedWord { start: 8, len: 3 }),
-        5 => Some(Shown::FixedWord { start: 0, len: 0 }),
-        _ => None,
-    }
-}
-
-fn display_part(code: u64) -> Option<Shown>
-    ensures { result ≡ display_part code }
-{
-    match code {
-        1 => Some(Shown::FixedWord { start: 0, len: 11 }),
-        2 => Some(Shown::FixedWord { start: 0, len: 13 }),
-        3 => Some(Shown::FixedWord { start: 8, len: 3 }),
-        4 => Some(Shown::FixedWord { start: 71, len: 15 }),
-        5 => Some(Shown::FixedWord { start: 86, len: 13 }),
-        6 => Some(Shown::FixedWord { start: 152, len: 7 }),
-        7 => Some(Shown::FixedWord { start: 159, len: 5 }),
-        9 => Some(Shown::FixedWord { start: 164, len: 5 }),
-        _ => None,
-    }
-}
-
-// The fixed word of a label.
-fn label_word<O: Out>(o: &mut O, book: &NameBook, code: u64)
-    ensures { O.added o.old (label_word code) o.new }
-{
-    part(o, book, label_part(code));
-}
-
-pub fn category<O: Out>(o: &mut O, book: &NameBook, code: u64)
-    ensures { O.added o.old (category_text code) o.new }
-{
-    part(o, book, category_part(code));
 }
 
 // What a display begins with.
-fn display_word<O: Out>(o: &mut O, book: &NameBook, code: u64)
-    ensures { O.added o.old (display_word code) o.new }
-{
-    part(o, book, display_part(code));
-}
-
-// What a process or a lane is called.
-pub fn display<O: Out>(o: &mut O, book: &NameBook, code: u64, n: u64)
-    ensures { O.added o.old (display_text (book_text book.now) code n) o.new }
-{
-    match code {
-        1 => display_word(o, book, 1),
-        2 => {
-            display_word(o, book, 2);
-            text(o, book, n);
-            o.put(b")");
-        }
-        3 => display_word(o, book, 3),
-        4 => display_word(o, book, 4),
-        5 => display_word(o, book, 5),
-        6 => {
-            display_word(o, book, 6);
-            number(o, n);
-        }
-        7 => display_word(o, book, 7),
-        8 => text(o, book, n),
-        9 => {
-            display_word(o, book, 9);
-            number(o, n);
-        }
-        _ => o.refuse(),
-    }
-}
-
-pub fn label<O: Out>(o: &mut O, book: &NameBook, kind: u64, first: u64, second: u64)
-    ensures { O.added o.old (label_text (book_text book.now) kind first second) o.new }
+fn pattern_part(kind: PatternKind) -> Shown
+    ensures { result ≡ pattern_part kind }
 {
     match kind {
-        1 => label_word(o, book, first),
-        2 => text(o, book, first),
-        3 => {
-            text(o, book, first);
-            o.put(b" ");
-            text(o, book, second);
+        PatternKind::NextestRun => fixed(0, 11),
+        PatternKind::NextestRunOf => fixed(0, 13),
+        PatternKind::RunLane => fixed(8, 3),
+        PatternKind::SubRuns => fixed(71, 15),
+        PatternKind::SetupScripts => fixed(86, 13),
+        PatternKind::ScriptNumber => fixed(152, 7),
+        PatternKind::Tests => fixed(159, 5),
+        PatternKind::BookText => fixed(0, 0),
+        PatternKind::SlotNumber => fixed(164, 5),
+    }
+}
+
+// A lent output, and the book whose texts are shown there.
+#[derive(Drop)]
+pub struct Writer<'w, O> {
+    pub out: &'w mut O,
+    pub book: &'w NameBook<'w>,
+}
+
+impl<'w, O: Out> Writer<'w, O> {
+    ghost use Rattle.words.specs.Writing.{Adds};
+
+    pub fn put(&mut self, text: &[u8])
+        ensures { Adds O.Out self.old (λ _. Some text.now) self.new }
+    {
+        self.out.put(text);
+    }
+
+    // What should stand here cannot be shown.
+    pub fn refuse(&mut self)
+        ensures { Adds O.Out self.old (λ _. None) self.new }
+    {
+        self.out.refuse();
+    }
+
+    pub fn number<I: Integer>(&mut self, n: I)
+        ensures { Adds O.Out self.old (λ _. Some (I.text n)) self.new }
+    {
+        outs::number(self.out, n);
+    }
+
+    // A word, escaped: a text of the book or a part of the fixed words.
+    fn show(&mut self, which: Shown)
+        ensures { Adds O.Out self.old (λ _. shown (shown_of (texts self.old.book.now) words which)) self.new }
+    {
+        match self.book.word_from(WORDS, which) {
+            Some(word) => outs::escape(self.out, word),
+            None => self.out.refuse(),
         }
-        _ => o.refuse(),
     }
-}
 
-pub fn phase_letter<O: Out>(o: &mut O, letter: u8)
-    ensures { O.added o.old (phase_text letter) o.new }
-{
-    match letter {
-        b'B' | b'E' | b'M' | b'i' | b'C' | b's' | b'f' => o.put(&[letter]),
-        _ => o.refuse(),
+    // How a book number is shown: every text of the output comes from here.
+    pub fn text(&mut self, n: u64)
+        ensures { Adds O.Out self.old (λ show. show n) self.new }
+    {
+        match u32::try_from(n) {
+            Ok(number) => self.show(Shown::BookText(number)),
+            Err(_) => self.refuse(),
+        }
     }
-}
 
-pub fn flag<O: Out>(o: &mut O, n: u64)
-    ensures { O.added o.old (flag_text n) o.new }
-{
-    match n {
-        0 => o.put(b"false"),
-        1 => o.put(b"true"),
-        _ => o.refuse(),
+    // The fixed word of a label.
+    fn word(&mut self, code: u64)
+        ensures { Adds O.Out self.old (λ _. label_word code) self.new }
+    {
+        match Word::try_from(code) {
+            Ok(word) => self.show(word_part(word)),
+            Err(_) => self.refuse(),
+        }
+    }
+
+    pub fn category(&mut self, code: u64)
+        ensures { Adds O.Out self.old (λ _. category_text code) self.new }
+    {
+        match Category::try_from(code) {
+            Ok(category) => self.show(category_part(category)),
+            Err(_) => self.refuse(),
+        }
+    }
+
+    // What a process or a lane is called.
+    pub fn display(&mut self, code: u64, n: u64)
+        ensures { Adds O.Out self.old (λ show. display_text show code n) self.new }
+    {
+        match PatternKind::try_from(code) {
+            Ok(kind) => {
+                self.show(pattern_part(kind));
+                self.operand(kind, n);
+            }
+            Err(_) => self.refuse(),
+        }
+    }
+
+    // What follows in a display.
+    fn operand(&mut self, kind: PatternKind, n: u64)
+        ensures { Adds O.Out self.old (λ show. operand_text show kind n) self.new }
+    {
+        match kind {
+            PatternKind::NextestRunOf => {
+                self.text(n);
+                self.put(b")");
+            }
+            PatternKind::BookText => self.text(n),
+            PatternKind::ScriptNumber | PatternKind::SlotNumber => self.number(n),
+            _ => {}
+        }
+    }
+
+    pub fn label(&mut self, kind: u64, first: u64, second: u64)
+        ensures { Adds O.Out self.old (λ show. label_text show kind first second) self.new }
+    {
+        match LabelKind::try_from(kind) {
+            Ok(LabelKind::Fixed) => self.word(first),
+            Ok(LabelKind::Text) => self.text(first),
+            Ok(LabelKind::TwoTexts) => {
+                self.text(first);
+                self.put(b" ");
+                self.text(second);
+            }
+            Err(_) => self.refuse(),
+        }
+    }
+
+    pub fn phase_letter(&mut self, letter: u8)
+        ensures { Adds O.Out self.old (λ _. phase_text letter) self.new }
+    {
+        match Phase::try_from(letter) {
+            Ok(_) => self.put(&[letter]),
+            Err(_) => self.refuse(),
+        }
+    }
+
+    // A flag is 0 or 1.
+    pub fn flag(&mut self, n: u64)
+        ensures { Adds O.Out self.old (λ _. flag_text n) self.new }
+    {
+        match n {
+            0 => self.put(b"false"),
+            1 => self.put(b"true"),
+            _ => self.refuse(),
+        }
     }
 }
 
