@@ -13,7 +13,8 @@ use trace::{Label, NamePattern};
 pub mod by_binary;
 pub mod by_slot;
 
-// A grouping is asked with the number of a binary in the name book and with its id text.
+// A grouping is asked with the number of a binary in the name book and with its id text. They stay two parameters:
+// of a struct that borrows the id each clause would have to say at which moment it is meant.
 pub trait Grouping {
     // the process of each binary that has one yet
     ghost process: { Self → ℕ → Option ℕ };

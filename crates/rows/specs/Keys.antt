@@ -16,13 +16,13 @@ abbrev pub same_lane : ℕ × ℕ → ℕ × ℕ → Bool
 same_lane a b = a.0 == b.0 && a.1 == b.1
 
 abbrev pub running_key : RunningTest → TestKey
-running_key r = record { binary = r.binary; test = r.test }
+running_key r = r.key
 
 abbrev pub running_rank : RunningTest → ℕ
 running_rank r = r.slot
 
 abbrev pub waiting_key : WaitingTest → TestKey
-waiting_key r = record { binary = r.binary; test = r.test }
+waiting_key r = r.key
 
 abbrev pub script_key : RunningScript → ℕ
 script_key r = r.index

@@ -6,8 +6,7 @@ use table::Row;
 // A test that runs, in its slot: by slot.
 #[derive(Clone, Copy, Debug, PartialEq, Eq)]
 pub struct RunningTest {
-    pub binary: u32,
-    pub test: u32,
+    pub key: TestKey,
     pub slot: u32,
 }
 
@@ -19,10 +18,7 @@ impl Row for RunningTest {
     ghost rank_of = { running_rank };
 
     fn key(&self) -> TestKey {
-        TestKey {
-            binary: self.binary,
-            test: self.test,
-        }
+        self.key
     }
 
     fn rank(&self) -> u32 {

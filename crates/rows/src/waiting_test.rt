@@ -6,8 +6,7 @@ use table::Row;
 // A test that failed and waits to run again, with the number of its arrow: by arrival.
 #[derive(Clone, Copy, Debug, PartialEq, Eq)]
 pub struct WaitingTest {
-    pub binary: u32,
-    pub test: u32,
+    pub key: TestKey,
     pub arrow: u32,
 }
 
@@ -19,10 +18,7 @@ impl Row for WaitingTest {
     ghost rank_of = { unranked };
 
     fn key(&self) -> TestKey {
-        TestKey {
-            binary: self.binary,
-            test: self.test,
-        }
+        self.key
     }
 
     fn rank(&self) -> u32 {

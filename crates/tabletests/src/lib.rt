@@ -11,9 +11,10 @@ mod tests {
 
     const NO_SCRIPT: RunningScript = RunningScript { index: 0, id: 0 };
 
+    const NO_KEY: TestKey = TestKey { binary: 0, test: 0 };
+
     const NO_TEST: RunningTest = RunningTest {
-        binary: 0,
-        test: 0,
+        key: NO_KEY,
         slot: 0,
     };
 
@@ -23,8 +24,7 @@ mod tests {
     };
 
     const NO_WAIT: WaitingTest = WaitingTest {
-        binary: 0,
-        test: 0,
+        key: NO_KEY,
         arrow: 0,
     };
 
@@ -34,8 +34,7 @@ mod tests {
 
     fn running(test: u32, slot: u32) -> RunningTest {
         RunningTest {
-            binary: 7,
-            test,
+            key: TestKey { binary: 7, test },
             slot,
         }
     }
@@ -98,8 +97,8 @@ mod tests {
         assert_eq!(rt; tests.insert(running(1, 4)), Ok(()));
         assert_eq!(rt; tests.insert(running(2, 6)), Ok(()));
         assert_eq!(rt; tests.insert(running(1, 9)), Ok(()));
-        assert_eq!(rt; tests.at(0).map(|row| row.test), Some(2));
-        assert_eq!(rt; tests.at(1).map(|row| row.test), Some(1));
+        assert_eq!(rt; tests.at(0).map(|row| row.key.test), Some(2));
+        assert_eq!(rt; tests.at(1).map(|row| row.key.test), Some(1));
         assert_eq!(rt; tests.count(), 2);
         let key = TestKey { binary: 7, test: 1 };
         assert_eq!(rt; tests.get(key).map(|row| row.slot), Some(9));
@@ -113,10 +112,10 @@ mod tests {
         assert_eq!(rt; tests.insert(running(2, 2)), Ok(()));
         assert_eq!(rt; tests.insert(running(3, 4)), Ok(()));
         assert_eq!(rt; tests.insert(running(4, 2)), Ok(()));
-        assert_eq!(rt; tests.at(0).map(|row| row.test), Some(2));
-        assert_eq!(rt; tests.at(1).map(|row| row.test), Some(4));
-        assert_eq!(rt; tests.at(2).map(|row| row.test), Some(1));
-        assert_eq!(rt; tests.at(3).map(|row| row.test), Some(3));
+        assert_eq!(rt; tests.at(0).map(|row| row.key.test), Some(2));
+        assert_eq!(rt; tests.at(1).map(|row| row.key.test), Some(4));
+        assert_eq!(rt; tests.at(2).map(|row| row.key.test), Some(1));
+        assert_eq!(rt; tests.at(3).map(|row| row.key.test), Some(3));
     }
 
     #[test]
@@ -126,8 +125,8 @@ mod tests {
         assert_eq!(rt; tests.insert(running(1, 4)), Ok(()));
         assert_eq!(rt; tests.insert(running(2, 4)), Ok(()));
         assert_eq!(rt; tests.insert(running(1, 4)), Ok(()));
-        assert_eq!(rt; tests.at(0).map(|row| row.test), Some(2));
-        assert_eq!(rt; tests.at(1).map(|row| row.test), Some(1));
+        assert_eq!(rt; tests.at(0).map(|row| row.key.test), Some(2));
+        assert_eq!(rt; tests.at(1).map(|row| row.key.test), Some(1));
         assert_eq!(rt; tests.count(), 2);
     }
 
@@ -176,8 +175,7 @@ mod tests {
         let mut memory = [NO_WAIT; 2];
         let mut waiting = Table::over(&mut memory);
         let row = WaitingTest {
-            binary: 1,
-            test: 2,
+            key: TestKey { binary: 1, test: 2 },
             arrow: 9,
         };
         assert_eq!(rt; waiting.insert(row), Ok(()));
