@@ -49,7 +49,7 @@ def found(pattern, what):
 
 
 def point_1():
-    yield from found(r"^ +(?:[0-9]+|b'.')(?: \| (?:[0-9]+|b'.'))* => .*", "a match on a number")
+    yield from found(r"^ +(?:[0-9]+|b'.')(?: \| (?:[0-9]+|b'.'))* => (?!Ok\(\w+::\w+\),$).*", "a match on a number")
     yield from found(r"(?:None|Err\(_\)|_) => (?:0|1000),|^ +return false;", "an answer that is a value apart")
     yield from found(r"Result<.*, u8>|-> Option<Refusal>", "an error as a number or an Option")
     yield from found(r"\.number\(\) == [0-9]+|number_of \w+ ≡ [0-9]+", "a refusal as a number")
