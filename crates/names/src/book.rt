@@ -27,7 +27,8 @@ pub enum Shown {
     FixedWord { start: usize, len: usize },
 }
 
-// Texts by number, over lent memory: the first `count` entries have texts in the first `used` bytes.
+// Texts by number: the first `count` entries have texts in the first `used` bytes. The libraries have no heap: memory is
+// lent.
 #[derive(Drop)]
 pub struct NameBook<'a> {
     entries: &'a mut [Entry],
@@ -97,6 +98,7 @@ impl<'a> NameBook<'a> {
         ensures found { result ≡ found (texts self.now) text.now }
         ensures stands { MatchOption result (has (texts self.now) text.now ≡ false) (λ k. text_at (texts self.now) k ≡ Some text.now) }
     {
+        // enumerated, since the place is the answer; `position` would ask of its closure that each entry lies in the bytes
         let entries = &self.entries[..self.count];
         for (i, entry) in entries.iter().enumerate() {
             if self.part(*entry) == text {

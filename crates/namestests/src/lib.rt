@@ -31,12 +31,7 @@ pub fn enter_both(book: &mut NameBook, a: &[u8], b: &[u8]) -> Result<(u32, u32),
 
 // Enters the numbers below `count` as texts of four bytes, and says whether each got the next number.
 pub fn enter_many(book: &mut NameBook, count: u32) -> bool {
-    for i in 0..count {
-        if book.enter(&i.to_le_bytes()) != Ok(i + 1) {
-            return false;
-        }
-    }
-    true
+    (0..count).all(|i| book.enter(&i.to_le_bytes()) == Ok(i + 1))
 }
 
 #[cfg(test)]

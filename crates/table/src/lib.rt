@@ -38,7 +38,7 @@ pub trait Row: Copy {
 // The most rows that a table holds, whatever its memory.
 const MOST: usize = 4096;
 
-// The first `len` of some lent rows, of which it uses no more than 4,096.
+// The first `len` of some lent rows, of which it uses no more than 4,096. The libraries have no heap: memory is lent.
 #[derive(Drop)]
 pub struct Table<'a, R: Row> {
     rows: &'a mut [R],

@@ -1,4 +1,5 @@
-// The trace events that a converter writes.
+// The trace events that a converter writes. Each maker takes what its event tells, and no two take the same, so that no
+// struct stands for their parameters.
 
 ghost use Rattle.std.specs.Prelude.{◌≡◌, ◌+◌, pos};
 ghost use Rattle.trace.specs.declared.Category.TheVariants.{Test, Run};
@@ -76,7 +77,7 @@ pub fn begin(
     coded_event(Phase::Begin, category, label, at, lane, 0, arguments)
 }
 
-// A bar closes on a lane.
+// A bar closes on a lane. Two names for the two ends: with a phase as a parameter any phase could be asked for.
 #[tactic(auto, unfolding(crate::specs::Events::end_event))]
 pub fn end(
     lane: Lane,
@@ -119,7 +120,7 @@ pub fn results_counter(at: Timestamp, passed: u32, flaky: u32, failed: u64) -> T
     counter(Word::TestResults, at, counts)
 }
 
-// What happens to the run, on its lane.
+// What happens to the run, on its lane; beside `counter`, since a phase and its lane go together.
 fn run_instant(word: Word, at: Timestamp, arguments: Arguments) -> TraceEvent
     ensures { result ≡ coded Instant Run (Fixed word) at.micros (0, 1) 0 arguments }
 {
@@ -238,6 +239,7 @@ pub fn flow_finish(lane: Lane, at: Timestamp, arrow: u32) -> TraceEvent
     flow(Phase::FlowFinish, lane, at, arrow)
 }
 
+// What names and sorts; each of the four below has a name of its own, so that no other word can be asked for.
 #[tactic(auto, unfolding(crate::specs::Events::metadata_event))]
 fn metadata(word: Word, lane: Lane, arguments: Arguments) -> TraceEvent
     ensures { result ≡ metadata_event word lane arguments }
