@@ -1,30 +1,19 @@
 // Holds the JSON writer against texts that were made without it.
 #![tactic(auto)]
 
-use anyhow::anyhow;
-use columns::{read_signed, read_unsigned};
+ghost use Rattle.std.specs.Prelude.{◌≡◌, ◌+◌, ◌<◌, ◌≤◌, length, OnSome};
+
+use anyhow::Context;
+use columns::{Number, read};
 use names::{Entry, NameBook};
 use sinks::{RecordList, Sink};
 use states::{Finished, Recording};
 use std::fs;
-use trace::TraceEvent;
+use trace::{ARGUMENTS, TraceEvent};
 use trace_json::write_json;
 
-const LINE: usize = 322;
-
-const BLANK: TraceEvent = TraceEvent {
-    phase: 0,
-    category: 0,
-    label: 0,
-    first: 0,
-    second: 0,
-    time: 0,
-    process: 0,
-    lane: 0,
-    arrow: 0,
-    kind: 0,
-    arguments: [0; 7],
-};
+// What the output is filled with, before the writer gets it.
+const FILLED: u8 = 170;
 
 // The bytes of a list of cases that are still to be read.
 #[derive(Drop)]
@@ -33,116 +22,100 @@ struct Cursor<'a> {
 }
 
 impl<'a> Cursor<'a> {
-    fn part(&mut self, len: usize) -> Option<&'a [u8]> {
-        let left = self.left;
-        if left.len() < len {
-            return None;
+    fn part(&mut self, len: usize) -> Option<&'a [u8]>
+        ensures { OnSome result (length self.new.left.now + len ≡ length self.old.left.now) }
+    {
+        let (part, left) = self.left.split_at_checked(len)?;
+        self.left = left;
+        Some(part)
+    }
+
+    fn byte(&mut self) -> Option<u8>
+        ensures { OnSome result (length self.new.left.now + 1 ≡ length self.old.left.now) }
+    {
+        let (byte, left) = self.left.split_first()?;
+        self.left = left;
+        Some(*byte)
+    }
+
+    fn number<N: Number>(&mut self) -> Option<N>
+        ensures { OnSome result (length self.new.left.now + 20 ≡ length self.old.left.now) }
+    {
+        read(self.part(20)?)
+    }
+
+    fn size(&mut self) -> Option<usize>
+        ensures { OnSome result (length self.new.left.now + 20 ≡ length self.old.left.now) }
+    {
+        let n: u64 = self.number()?;
+        usize::try_from(n).ok()
+    }
+
+    fn arguments(&mut self) -> Option<[u64; ARGUMENTS]>
+        ensures { OnSome result (length self.new.left.now ≤ length self.old.left.now) }
+    {
+        let mut arguments = [0; ARGUMENTS];
+        for n in &mut arguments {
+            *n = self.number()?;
         }
-        self.left = &left[len..left.len()];
-        Some(&left[0..len])
+        Some(arguments)
     }
 
-    fn number(&mut self) -> Option<u64> {
-        let column = self.part(20)?;
-        read_unsigned(column)
-    }
-
-    fn size(&mut self) -> Option<usize> {
-        let n = self.number()?;
-        Some(n as usize)
+    // An event, and the line feed behind it: a line of a trace sheet, which the crate sinks reads for itself alone.
+    fn event(&mut self) -> Option<TraceEvent>
+        ensures { OnSome result (length self.new.left.now ≤ length self.old.left.now) }
+    {
+        let e = TraceEvent {
+            phase: self.byte()?,
+            category: self.number()?,
+            label: self.number()?,
+            first: self.number()?,
+            second: self.number()?,
+            time: self.number()?,
+            process: self.number()?,
+            lane: self.number()?,
+            arrow: self.number()?,
+            kind: self.number()?,
+            arguments: self.arguments()?,
+        };
+        self.byte()?;
+        Some(e)
     }
 }
 
-// The k-th number of a line, but for the time.
-fn line_number(line: &[u8], k: usize) -> u64 {
-    if line.len() < LINE || k > 15 {
-        return 0;
-    }
-    match read_unsigned(&line[1 + 20 * k..21 + 20 * k]) {
-        Some(n) => n,
-        None => 0,
-    }
-}
-
-fn line_time(line: &[u8]) -> i64 {
-    if line.len() < LINE {
-        return 0;
-    }
-    match read_signed(&line[81..101]) {
-        Some(z) => z,
-        None => 0,
-    }
-}
-
-fn event_in(line: &[u8]) -> TraceEvent {
-    let mut arguments = [0; 7];
-    for i in 0..7 {
-        arguments[i] = line_number(line, 9 + i);
-    }
-    let phase = if line.len() > 0 { line[0] } else { 0 };
-    TraceEvent {
-        phase,
-        category: line_number(line, 0),
-        label: line_number(line, 1),
-        first: line_number(line, 2),
-        second: line_number(line, 3),
-        time: line_time(line),
-        process: line_number(line, 5),
-        lane: line_number(line, 6),
-        arrow: line_number(line, 7),
-        kind: line_number(line, 8),
-        arguments,
-    }
-}
-
-// Enters texts behind the version; false where the list is damaged.
-fn enter_texts(cursor: &mut Cursor, book: &mut NameBook, count: usize) -> bool {
+// Enters texts behind the version.
+fn enter_texts(cursor: &mut Cursor, book: &mut NameBook, count: usize) -> Option<()>
+    ensures { OnSome result (length cursor.new.left.now ≤ length cursor.old.left.now) }
+{
     for _ in 0..count {
-        let Some(len) = cursor.size() else {
-            return false;
-        };
-        let Some(text) = cursor.part(len) else {
-            return false;
-        };
-        if book.enter(text).is_err() {
-            return false;
-        }
+        let len = cursor.size()?;
+        book.enter(cursor.part(len)?).ok()?;
     }
-    true
+    Some(())
 }
 
-fn append_lines(cursor: &mut Cursor, sink: &mut RecordList, count: usize) -> bool {
+fn append_lines(cursor: &mut Cursor, sink: &mut RecordList, count: usize) -> Option<()>
+    ensures { OnSome result (length cursor.new.left.now ≤ length cursor.old.left.now) }
+{
     for _ in 0..count {
-        let Some(line) = cursor.part(LINE) else {
-            return false;
-        };
-        if sink.append(event_in(line)).is_err() {
-            return false;
-        }
+        sink.append(cursor.event()?).ok()?;
     }
-    true
+    Some(())
 }
 
-fn book_number(n: usize) -> Option<u32> {
-    if n == 0 || n > 65535 {
-        None
-    } else {
-        Some(n as u32)
-    }
+// In a case 0 stands for no number.
+fn some_number(n: u64) -> Option<u64> {
+    if n == 0 { None } else { Some(n) }
 }
 
-fn same_bytes(a: &[u8], b: &[u8]) -> bool {
-    a == b
+fn book_number(n: u64) -> Option<u32> {
+    let number = u16::try_from(some_number(n)?).ok()?;
+    Some(u32::from(number))
 }
 
 // Whether every byte is the one that the output was filled with.
 fn untouched(bytes: &[u8]) -> bool {
-    for b in bytes {
-        if *b != 170 {
-            return false;
-        }
-    }
-    true
+    bytes.iter().all(|b| *b == FILLED)
 }
 
 // What stands in front of a case.
@@ -150,31 +123,27 @@ fn untouched(bytes: &[u8]) -> bool {
 struct Header {
     texts: usize,
     events: usize,
-    run_id: usize,
-    profile: usize,
+    run_id: Option<u32>,
+    profile: Option<u32>,
     size: usize,
-    number: usize,
+    refusal: Option<u64>,
     length: usize,
 }
 
-fn read_header(cursor: &mut Cursor) -> Option<Header> {
-    let texts = cursor.size()?;
-    let events = cursor.size()?;
-    let run_id = cursor.size()?;
-    let profile = cursor.size()?;
-    let size = cursor.size()?;
-    let number = cursor.size()?;
-    let length = cursor.size()?;
+fn read_header(cursor: &mut Cursor) -> Option<Header>
+    ensures { OnSome result (length cursor.new.left.now < length cursor.old.left.now) }
+{
+    let header = Header {
+        texts: cursor.size()?,
+        events: cursor.size()?,
+        run_id: book_number(cursor.number()?),
+        profile: book_number(cursor.number()?),
+        size: cursor.size()?,
+        refusal: some_number(cursor.number()?),
+        length: cursor.size()?,
+    };
     cursor.size()?;
-    Some(Header {
-        texts,
-        events,
-        run_id,
-        profile,
-        size,
-        number,
-        length,
-    })
+    Some(header)
 }
 
 // Whether the writer answers as it is wanted.
@@ -186,51 +155,52 @@ fn written_well(
     h: Header,
     wanted: &[u8],
 ) -> bool {
-    let size = h.size;
-    let number = h.number;
-    if size > out.len() {
+    if h.size > out.len() {
         return false;
     }
-    let answer = write_json(&mut out[0..size], finished, sink, book);
-    if size > out.len() {
-        return false;
-    }
-    let (written, behind) = out.split_at(size);
-    match answer {
-        Ok(n) => number == 0 && n == size && same_bytes(written, wanted) && untouched(behind),
-        Err(refusal) => refusal.number() as usize == number
-            && untouched(written)
-            && untouched(behind),
-    }
+    let (room, behind) = out.split_at_mut(h.size);
+    let answered = match (write_json(room, finished, sink, book), h.refusal) {
+        (Ok(n), None) => n == room.len() && &*room == wanted,
+        (Err(refusal), Some(number)) => u64::from(refusal.number()) == number && untouched(room),
+        _ => false,
+    };
+    answered && untouched(behind)
+}
+
+// Whether the writer answers as it is wanted on what follows; none where the list is damaged.
+fn rest_holds(
+    cursor: &mut Cursor,
+    h: Header,
+    book: &mut NameBook,
+    finished: &Finished,
+) -> Option<bool>
+    ensures { OnSome result (length cursor.new.left.now ≤ length cursor.old.left.now) }
+{
+    let mut places = [TraceEvent::BLANK; 16];
+    let mut sink = RecordList::over(&mut places);
+    enter_texts(cursor, book, h.texts.checked_sub(1)?)?;
+    append_lines(cursor, &mut sink, h.events)?;
+    let wanted = cursor.part(h.length)?;
+    let mut out = [FILLED; 16384];
+    Some(written_well(&mut out, finished, &sink, book, h, wanted))
 }
 
 // Whether the writer answers a case as it is wanted; none where the list is damaged.
-fn case_holds(cursor: &mut Cursor) -> Option<bool> {
+fn case_holds(cursor: &mut Cursor) -> Option<bool>
+    ensures { OnSome result (length cursor.new.left.now < length cursor.old.left.now) }
+{
     let h = read_header(cursor)?;
     let mut entries = [Entry::BLANK; 16];
     let mut bytes = [0u8; 4096];
     let mut book = NameBook::over(&mut entries, &mut bytes);
-    let mut places = [BLANK; 16];
-    let mut sink = RecordList::over(&mut places);
     let version_len = cursor.size()?;
     let version = cursor.part(version_len)?;
-    let Ok(mut recording) = Recording::new(&mut book, version) else {
-        return None;
-    };
-    recording.run_id = book_number(h.run_id);
-    recording.profile_name = book_number(h.profile);
+    let mut recording = Recording::new(&mut book, version).ok()?;
+    recording.other_data.run_id = h.run_id;
+    recording.other_data.profile_name = h.profile;
     let finished = recording.finish();
-    let mut holds = None;
-    if h.texts > 0
-        && enter_texts(cursor, &mut book, h.texts - 1)
-        && append_lines(cursor, &mut sink, h.events)
-    {
-        if let Some(wanted) = cursor.part(h.length) {
-            let mut out = [170u8; 16384];
-            holds = Some(written_well(&mut out, &finished, &sink, &book, h, wanted));
-        }
-    }
-    let (_version, _run_id, _profile_name) = finished.close();
+    let holds = rest_holds(cursor, h, &mut book, &finished);
+    let _told = finished.close();
     holds
 }
 
@@ -241,18 +211,12 @@ fn run(rt: &HostRuntime) -> anyhow::Result<()> {
     };
     let mut cases = 0u64;
     let mut differ = 0u64;
-    for _ in 0..1000000 {
-        if cursor.left.len() == 0 {
-            break;
-        }
+    while !cursor.left.is_empty() {
         cases = cases.saturating_add(1);
-        match case_holds(&mut cursor) {
-            Some(true) => {}
-            Some(false) => {
-                differ = differ.saturating_add(1);
-                println!(rt; "case {cases} differs")?;
-            }
-            None => return Err(anyhow!("the list of cases is damaged")),
+        let holds = case_holds(&mut cursor).context("the list of cases is damaged")?;
+        if !holds {
+            differ = differ.saturating_add(1);
+            println!(rt; "case {cases} differs")?;
         }
     }
     println!(rt; "{cases} traces, {differ} differences")?;

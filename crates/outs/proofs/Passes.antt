@@ -26,4 +26,4 @@ pub done : (x : Text) (m at : ℕ) (was is : List ℕ) → Counted (Some (length
 done (Some x) m at was is c f =
     let h = f (omega (arith, c)) in
     (omega (arith, h.0), h.2, h.3)
-done None m at was is c f = let w : ◌≡◌ {A = ℕ} 0 1 = cc in omega (arith, w)
+done None m at was is c f = absurd (cc)

@@ -10,6 +10,7 @@ use outs::Out;
 use trace::{ARGUMENTS, ArgumentKind};
 use words::Writer;
 
+// What a member shows is one of four things. A trait for them, with an impl for each, would be longer than the four functions.
 fn text_member<O: Out>(w: &mut Writer<O>, key: &[u8], n: u64)
     ensures { Adds O.Out w.old (λ show. text_member show key.now n) w.new }
 {

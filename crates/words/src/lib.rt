@@ -13,7 +13,7 @@ use names::{NameBook, Shown};
 use outs::Out;
 use trace::{Category, LabelKind, PatternKind, Phase, Word};
 
-// All fixed words.
+// All fixed words: by a rule of the project each one shown is a part of this slice, which the book's word_from picks.
 const WORDS: &[u8] =
     b"nextest run (process_sort_indexthread_sort_indexprocess_namethread_namestress sub-runssetup-scriptsconcurrencytest resultsretryslowcancelpausedcontinuedscript-testsslot-";
 
@@ -194,7 +194,7 @@ impl<'w, O: Out> Writer<'w, O> {
         }
     }
 
-    // A flag is 0 or 1.
+    // By the table of codes a flag is the number 0 or 1, and no enum.
     pub fn flag(&mut self, n: u64)
         ensures { Adds O.Out self.old (λ _. flag_text n) self.new }
     {
