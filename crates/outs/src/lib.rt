@@ -49,7 +49,7 @@ impl Out for Counter {
     }
 }
 
-// A lent output, and where the next text goes. A text that finds no room is not written.
+// A lent output, since the libraries have no heap, and where the next text goes. A text that finds no room is not written.
 #[derive(Debug, Drop)]
 pub struct Buffer<'a> {
     pub out: &'a mut [u8],

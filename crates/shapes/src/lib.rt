@@ -112,7 +112,7 @@ fn result_counts_members<O: Out>(w: &mut Writer<O>, ns: &[u64; ARGUMENTS])
     number_member(w, b",\"failed\":", ns[2]);
 }
 
-// The members, by the kind of the arguments.
+// The members, by the kind of the arguments: a match that the compiler holds against all kinds.
 fn members<O: Out>(w: &mut Writer<O>, kind: ArgumentKind, ns: &[u64; ARGUMENTS])
     ensures { Adds O.Out w.old (λ show. members_text show kind ns.now) w.new }
 {

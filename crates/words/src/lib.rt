@@ -123,7 +123,7 @@ impl<'w, O: Out> Writer<'w, O> {
         }
     }
 
-    // The fixed word of a label.
+    // The fixed word of a label. One method for it and for `category` would need a trait that tells the part of each enum.
     fn word(&mut self, code: u64)
         ensures { Adds O.Out self.old (λ _. label_word code) self.new }
     {
