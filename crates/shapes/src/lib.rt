@@ -3,7 +3,7 @@
 
 ghost use Rattle.std.specs.Prelude.{◌≡◌};
 ghost use Rattle.words.specs.Writing.{Adds};
-ghost use Rattle.shapes.specs.Shapes.{text_member, number_member, flag_member, display_member, test_members, run_instant_members, cancel_members, retry_begin_members, test_end_members, test_slow_members, script_members, running_counts_members, result_counts_members, members_text, arguments_text};
+ghost use Rattle.shapes.specs.Shapes.{text_member, number_member, flag_member, display_member, test_members, pair_members, run_instant_members, cancel_members, retry_begin_members, test_end_members, test_slow_members, script_members, running_counts_members, result_counts_members, members_text, arguments_text};
 ghost use Rattle.shapes.specs.Laws.{ArgumentsShown};
 
 use outs::Out;
@@ -49,18 +49,25 @@ fn test_members<O: Out>(w: &mut Writer<O>, binary: u64, test: u64)
     text_member(w, b",\"test_name\":\"", test);
 }
 
+// The first two numbers, behind these keys.
+fn pair_members<O: Out>(w: &mut Writer<O>, first: &[u8], second: &[u8], ns: &[u64; ARGUMENTS])
+    ensures { Adds O.Out w.old (λ _. pair_members first.now second.now ns.now) w.new }
+{
+    number_member(w, first, ns[0]);
+    number_member(w, second, ns[1]);
+}
+
+// How many tests and setup scripts run, as an instant of the run tells it.
 fn run_instant_members<O: Out>(w: &mut Writer<O>, ns: &[u64; ARGUMENTS])
     ensures { Adds O.Out w.old (λ _. run_instant_members ns.now) w.new }
 {
-    number_member(w, b"\"running\":", ns[0]);
-    number_member(w, b",\"setup_scripts_running\":", ns[1]);
+    pair_members(w, b"\"running\":", b",\"setup_scripts_running\":", ns);
 }
 
 fn cancel_members<O: Out>(w: &mut Writer<O>, ns: &[u64; ARGUMENTS])
     ensures { Adds O.Out w.old (λ show. cancel_members show ns.now) w.new }
 {
-    number_member(w, b"\"running\":", ns[0]);
-    number_member(w, b",\"setup_scripts_running\":", ns[1]);
+    run_instant_members(w, ns);
     text_member(w, b",\"reason\":\"", ns[2]);
 }
 
@@ -100,8 +107,7 @@ fn script_members<O: Out>(w: &mut Writer<O>, flag: &[u8], ns: &[u64; ARGUMENTS])
 fn running_counts_members<O: Out>(w: &mut Writer<O>, ns: &[u64; ARGUMENTS])
     ensures { Adds O.Out w.old (λ _. running_counts_members ns.now) w.new }
 {
-    number_member(w, b"\"running_tests\":", ns[0]);
-    number_member(w, b",\"running_scripts\":", ns[1]);
+    pair_members(w, b"\"running_tests\":", b",\"running_scripts\":", ns);
 }
 
 fn result_counts_members<O: Out>(w: &mut Writer<O>, ns: &[u64; ARGUMENTS])

@@ -4,7 +4,6 @@
 ghost use Rattle.std.specs.Prelude.{◌≡◌, ◌+◌, pos};
 ghost use Rattle.trace.specs.declared.Category.TheVariants.{Test, Run};
 ghost use Rattle.trace.specs.declared.Label.TheVariants.{Fixed};
-ghost use Rattle.trace.specs.declared.Phase.TheVariants.{Counter, Instant};
 ghost use Rattle.trace.specs.declared.Word.TheVariants.{Retry};
 ghost use Rattle.trace.specs.declared.Arguments.TheVariants.{Absent};
 ghost use Rattle.trace.specs.Events.{coded, begin_event, end_event, concurrency_event, results_event, cancel_event, paused_event, continued_event, slow_test_event, slow_script_event, flow_start_event, flow_finish_event, process_name_event, process_sort_event, thread_name_event, thread_sort_event, metadata_event};
@@ -91,11 +90,11 @@ pub fn end(
     coded_event(Phase::End, category, label, at, lane, 0, arguments)
 }
 
-// A counter of the run.
-fn counter(word: Word, at: Timestamp, counts: Arguments) -> TraceEvent
-    ensures { result ≡ coded Counter Run (Fixed word) at.micros (0, 0) 0 counts }
+// An event of the run, on one of its lanes.
+fn of_run(phase: Phase, word: Word, at: Timestamp, lane: Lane, arguments: Arguments) -> TraceEvent
+    ensures { result ≡ coded phase Run (Fixed word) at.micros lane 0 arguments }
 {
-    fixed(Phase::Counter, Category::Run, word, at, COUNTERS, counts)
+    fixed(phase, Category::Run, word, at, lane, arguments)
 }
 
 // How many tests and setup scripts run.
@@ -104,7 +103,7 @@ pub fn concurrency_counter(at: Timestamp, tests: u32, scripts: u32) -> TraceEven
     ensures { result ≡ concurrency_event at tests scripts }
 {
     let counts = Arguments::RunningCounts { tests, scripts };
-    counter(Word::Concurrency, at, counts)
+    of_run(Phase::Counter, Word::Concurrency, at, COUNTERS, counts)
 }
 
 // How many tests came out how.
@@ -117,14 +116,7 @@ pub fn results_counter(at: Timestamp, passed: u32, flaky: u32, failed: u64) -> T
         flaky,
         failed,
     };
-    counter(Word::TestResults, at, counts)
-}
-
-// What happens to the run, on its lane; beside `counter`, since a phase and its lane go together.
-fn run_instant(word: Word, at: Timestamp, arguments: Arguments) -> TraceEvent
-    ensures { result ≡ coded Instant Run (Fixed word) at.micros (0, 1) 0 arguments }
-{
-    fixed(Phase::Instant, Category::Run, word, at, RUN, arguments)
+    of_run(Phase::Counter, Word::TestResults, at, COUNTERS, counts)
 }
 
 // The run is cancelled, for a reason of the book.
@@ -137,25 +129,23 @@ pub fn cancel_instant(at: Timestamp, running: u32, scripts: u32, reason: u32) ->
         scripts,
         reason,
     };
-    run_instant(Word::Cancel, at, cancelled)
+    of_run(Phase::Instant, Word::Cancel, at, RUN, cancelled)
 }
 
 #[tactic(auto, unfolding(crate::specs::Events::paused_event))]
 pub fn paused_instant(at: Timestamp, running: u32, scripts: u32) -> TraceEvent
     ensures { result ≡ paused_event at running scripts }
 {
-    run_instant(Word::Paused, at, Arguments::RunInstant { running, scripts })
+    let counts = Arguments::RunInstant { running, scripts };
+    of_run(Phase::Instant, Word::Paused, at, RUN, counts)
 }
 
 #[tactic(auto, unfolding(crate::specs::Events::continued_event))]
 pub fn continued_instant(at: Timestamp, running: u32, scripts: u32) -> TraceEvent
     ensures { result ≡ continued_event at running scripts }
 {
-    run_instant(
-        Word::Continued,
-        at,
-        Arguments::RunInstant { running, scripts },
-    )
+    let counts = Arguments::RunInstant { running, scripts };
+    of_run(Phase::Instant, Word::Continued, at, RUN, counts)
 }
 
 // A test is slow, on its lane.

@@ -2,4 +2,4 @@ use Rattle.words.proofs.Writing.{◌▸◌}
 use Rattle.shapes.proofs.cancel_members.Goals as goal
 
 pub returns : goal.returns
-returns g c = c.number_member.ensures ▸ c.number_member-2.ensures ▸ c.text_member.ensures
+returns g c = c.run_instant_members.ensures ▸ c.text_member.ensures
