@@ -4,8 +4,9 @@
 ghost use Rattle.std.specs.Prelude.{◌≡◌, ◌+◌, pos};
 ghost use Rattle.trace.specs.declared.Category.TheVariants.{Test, Run};
 ghost use Rattle.trace.specs.declared.Label.TheVariants.{Fixed};
+ghost use Rattle.trace.specs.declared.Phase.TheVariants.{Instant};
 ghost use Rattle.trace.specs.declared.Word.TheVariants.{Retry};
-ghost use Rattle.trace.specs.declared.Arguments.TheVariants.{Absent};
+ghost use Rattle.trace.specs.declared.Arguments.TheVariants.{Absent, RunInstant};
 ghost use Rattle.trace.specs.Events.{coded, begin_event, end_event, concurrency_event, results_event, cancel_event, paused_event, continued_event, slow_test_event, slow_script_event, flow_start_event, flow_finish_event, process_name_event, process_sort_event, thread_name_event, thread_sort_event, metadata_event};
 
 use super::{Arguments, Category, Label, Lane, NamePattern, Phase, TraceEvent, Word};
@@ -132,20 +133,26 @@ pub fn cancel_instant(at: Timestamp, running: u32, scripts: u32, reason: u32) ->
     of_run(Phase::Instant, Word::Cancel, at, RUN, cancelled)
 }
 
+// An instant of the run that tells how many tests and setup scripts run.
+fn run_instant(word: Word, at: Timestamp, running: u32, scripts: u32) -> TraceEvent
+    ensures { result ≡ coded Instant Run (Fixed word) at.micros (0, 1) 0 (RunInstant running scripts) }
+{
+    let counts = Arguments::RunInstant { running, scripts };
+    of_run(Phase::Instant, word, at, RUN, counts)
+}
+
 #[tactic(auto, unfolding(crate::specs::Events::paused_event))]
 pub fn paused_instant(at: Timestamp, running: u32, scripts: u32) -> TraceEvent
     ensures { result ≡ paused_event at running scripts }
 {
-    let counts = Arguments::RunInstant { running, scripts };
-    of_run(Phase::Instant, Word::Paused, at, RUN, counts)
+    run_instant(Word::Paused, at, running, scripts)
 }
 
 #[tactic(auto, unfolding(crate::specs::Events::continued_event))]
 pub fn continued_instant(at: Timestamp, running: u32, scripts: u32) -> TraceEvent
     ensures { result ≡ continued_event at running scripts }
 {
-    let counts = Arguments::RunInstant { running, scripts };
-    of_run(Phase::Instant, Word::Continued, at, RUN, counts)
+    run_instant(Word::Continued, at, running, scripts)
 }
 
 // A test is slow, on its lane.
