@@ -13,8 +13,8 @@ use trace::{Label, NamePattern};
 pub mod by_binary;
 pub mod by_slot;
 
-// A grouping is asked with the number of a binary in the name book and with its id text. They stay two parameters:
-// of a struct that borrows the id each clause would have to say at which moment it is meant.
+// A grouping is asked with the number of a binary in the name book and with its id text: no struct of the two, which
+// would borrow the id, and which clauses could name only as it is at the entry or at the exit.
 pub trait Grouping {
     // the process of each binary that has one yet
     ghost process: { Self → ℕ → Option ℕ };

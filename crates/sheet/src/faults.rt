@@ -20,6 +20,8 @@ pub enum Fault {
 }
 
 impl Fault {
+    ghost use Rattle.sheet.specs.Sentences.{sentence_of};
+
     pub fn refusal(self) -> Refusal
         ensures { result ≡ refusal_of self }
     {
@@ -37,13 +39,26 @@ impl Fault {
     {
         match self {
             Fault::ShortLine | Fault::UnknownKind => 1,
-            Fault::BadNumber(place) => 4 + 20 * place as usize,
+            Fault::BadNumber(place) => 4 + 20 * usize::from(place),
             Fault::BadText => 284,
+        }
+    }
+
+    // What the fault means, in words.
+    pub fn sentence(self) -> &'static str
+        ensures { result.now ≡ sentence_of self }
+    {
+        match self {
+            Fault::ShortLine => "the sheet ends inside this line: a line has at least 292 bytes",
+            Fault::UnknownKind => "the line begins with no known kind word",
+            Fault::BadNumber(_) =>
+                "the number that begins here is malformed, out of its range, or not 0 where the kind has no use for it",
+            Fault::BadText =>
+                "a text or its length breaks the rules, or the texts and the line feed do not follow in full",
         }
     }
 }
 
-// What a fault means, in words.
 impl fmt::Display for Fault {
     ghost use Rattle.std.specs.Prelude.{Some};
     ghost use Rattle.sheet.specs.Sentences.{sentence_of};
@@ -51,18 +66,7 @@ impl fmt::Display for Fault {
     ghost output = { λ fault. Some (sentence_of fault) };
 
     fn fmt<W: fmt::Write>(&self, f: &mut fmt::Formatter<W>) -> fmt::Result {
-        match self {
-            Fault::ShortLine => f.write_str(
-                "the sheet ends inside this line: a line has at least 292 bytes",
-            ),
-            Fault::UnknownKind => f.write_str("the line begins with no known kind word"),
-            Fault::BadNumber(_) => f.write_str(
-                "the number that begins here is malformed, out of its range, or not 0 where the kind has no use for it",
-            ),
-            Fault::BadText => f.write_str(
-                "a text or its length breaks the rules, or the texts and the line feed do not follow in full",
-            ),
-        }
+        f.write_str(self.sentence())
     }
 }
 

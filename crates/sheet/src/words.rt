@@ -7,6 +7,7 @@ ghost use Rattle.events.specs.declared.kinds.Kind.{Kind as Kinds};
 
 use events::kinds::Kind;
 
+// The kind words are a table of the format. (`Kind` is of the crate `events`, so `TryFrom` cannot stand here.)
 fn kind_of(x: u8, y: u8, z: u8) -> Option<Kind>
     ensures { result ≡ kind_named x y z }
 {
@@ -31,7 +32,7 @@ fn kind_of(x: u8, y: u8, z: u8) -> Option<Kind>
     }
 }
 
-// The kind whose word stands in front, and the bytes behind it; a slice pattern takes the three letters.
+// The kind whose word stands in front, and the bytes behind it.
 pub fn kind_word<'a>(line: &'a [u8]) -> Option<(Kind, &'a [u8])>
     ensures { MatchOption result ((k : Kinds) → take 3 line.now ≢ letters k) (λ p. (take 3 line.now ≡ letters p.0) × (p.1.now ≡ drop 3 line.now)) }
 {

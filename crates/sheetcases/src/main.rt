@@ -44,7 +44,8 @@ fn case_at(bytes: &[u8]) -> Option<Case<'_>>
     ensures { IfSome result (λ c. length c.behind.now < length bytes.now) }
 {
     let (head, rest) = bytes.split_at_checked(80)?;
-    let (sheet, behind) = rest.split_at_checked(number_at(head, 3)? as usize)?;
+    let length = usize::try_from(number_at(head, 3)?).ok()?;
+    let (sheet, behind) = rest.split_at_checked(length)?;
     let wanted = match (
         number_at(head, 0)?,
         number_at(head, 1)?,

@@ -10,19 +10,27 @@ fn is_test(id: TestInstanceId) -> bool {
 }
 
 fn is_second_of_five(r: RetryData) -> bool {
-    r.attempt == 2 && r.total_attempts == 5
+    r == RetryData {
+        attempt: 2,
+        total_attempts: 5,
+    }
 }
 
 fn is_taken(t: TimeTaken) -> bool {
-    t.seconds == 6 && t.nanoseconds == 999999999
+    t == TimeTaken {
+        seconds: 6,
+        nanoseconds: 999999999,
+    }
 }
 
 fn are_stats(s: RunStats) -> bool {
-    s.passed == 9
-        && s.flaky == 10
-        && s.failed == 11
-        && s.exec_failed == 12
-        && s.failed_timed_out == 13
+    s == RunStats {
+        passed: 9,
+        flaky: 10,
+        failed: 11,
+        exec_failed: 12,
+        failed_timed_out: 13,
+    }
 }
 
 fn is_run_event(kind: EventKind) -> bool {
@@ -124,10 +132,8 @@ fn is_end_event(kind: EventKind) -> bool {
 }
 
 fn is_wanted(event: Event, line: i64) -> bool {
-    if event.timestamp.micros != line {
-        return false;
-    }
-    is_run_event(event.kind) || is_test_event(event.kind) || is_end_event(event.kind)
+    event.timestamp.micros == line
+        && (is_run_event(event.kind) || is_test_event(event.kind) || is_end_event(event.kind))
 }
 
 // How many lines from the first say what is wanted.

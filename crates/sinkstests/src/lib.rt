@@ -93,7 +93,7 @@ mod tests {
         let mut memory = [0u8; 321];
         let mut sheet = TraceSheet::over(&mut memory);
         let full = refused(&mut sheet, bar()) & sized(&sheet, 0, 0);
-        assert!(rt; full & sheet.event_at(0).is_none() & (sheet.as_bytes().len() == 0));
+        assert!(rt; full & sheet.event_at(0).is_none() & sheet.as_bytes().is_empty());
     }
 
     #[test]

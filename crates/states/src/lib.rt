@@ -92,6 +92,7 @@ impl Recording {
 }
 
 impl Finished {
+    // What the trace tells beside its events.
     pub fn other_data(&self) -> OtherData
         ensures { result ≡ self.now.other_data }
     {

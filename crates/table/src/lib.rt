@@ -30,7 +30,7 @@ pub trait Row: Copy {
         *key == self.key()
     }
 
-    // It has no default of 0, which is not proved to be the `rank_of` of every impl.
+    // No default: a body that answers 0 would have to be right for every `rank_of`.
     fn rank(&self) -> u32
         ensures { result ≡ rank_of self.now };
 }
@@ -65,6 +65,7 @@ impl<'a, R: Row> Table<'a, R> {
         ensures all { result ≡ length (listed self.now) }
         ensures fits { result ≤ room self.now }
         ensures limit { room self.now ≤ most }
+        ensures single { Single R.Key.eq R.key_of (listed self.now) }
     {
         self.len // within the room, as the type keeps it
     }

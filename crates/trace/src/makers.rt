@@ -1,5 +1,5 @@
-// The trace events that a converter writes. Each maker takes what its event tells, and no two take the same, so that no
-// struct stands for their parameters.
+// The trace events that a converter writes. Each maker takes what its event tells: a struct for what some of them take
+// would stand for no thing of its own.
 
 ghost use Rattle.std.specs.Prelude.{◌≡◌, ◌+◌, pos};
 ghost use Rattle.trace.specs.declared.Category.TheVariants.{Test, Run};

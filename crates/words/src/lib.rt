@@ -188,21 +188,34 @@ impl<'w, O: Out> Writer<'w, O> {
     pub fn phase_letter(&mut self, letter: u8)
         ensures { Adds O.Out self.old (λ _. phase_text letter) self.new }
     {
-        match Phase::try_from(letter) {
-            Ok(_) => self.put(&[letter]),
-            Err(_) => self.refuse(),
-        }
+        phase_letter(self.out, letter);
     }
 
-    // By the table of codes a flag is the number 0 or 1, and no enum.
     pub fn flag(&mut self, n: u64)
         ensures { Adds O.Out self.old (λ _. flag_text n) self.new }
     {
-        match n {
-            0 => self.put(b"false"),
-            1 => self.put(b"true"),
-            _ => self.refuse(),
-        }
+        flag(self.out, n);
+    }
+}
+
+// The letter of a phase: it needs no book.
+pub fn phase_letter<O: Out>(o: &mut O, letter: u8)
+    ensures { O.added o.old (phase_text letter) o.new }
+{
+    match Phase::try_from(letter) {
+        Ok(_) => o.put(&[letter]),
+        Err(_) => o.refuse(),
+    }
+}
+
+// By the table of codes a flag is the number 0 or 1, and no enum.
+pub fn flag<O: Out>(o: &mut O, n: u64)
+    ensures { O.added o.old (flag_text n) o.new }
+{
+    match n {
+        0 => o.put(b"false"),
+        1 => o.put(b"true"),
+        _ => o.refuse(),
     }
 }
 
