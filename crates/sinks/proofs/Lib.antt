@@ -1,5 +1,4 @@
 pub mod Laws
-mod Stored
 mod Pasting
 mod Rows
 mod Numerals
