@@ -10,7 +10,8 @@ use outs::Out;
 use trace::{ARGUMENTS, ArgumentKind};
 use words::Writer;
 
-// What a member shows is one of four things. A trait for them, with an impl for each, would be longer than the four functions.
+// What a member shows is one of four things. A trait for them, with an impl for each, would be longer than the four
+// functions; and a struct of the writer, a key and a number would stand for one call.
 fn text_member<O: Out>(w: &mut Writer<O>, key: &[u8], n: u64)
     ensures { Adds O.Out w.old (λ show. text_member show key.now n) w.new }
 {

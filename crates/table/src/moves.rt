@@ -1,4 +1,5 @@
-// Where a row stands among the rows of a table, and where one belongs.
+// Where a row stands among the rows of a table, and where one belongs. The first n rows are the table's; n goes along,
+// since of a slice of the table's rows that is lent on the check forgets what the rows were.
 
 ghost use Rattle.std.specs.Prelude.{◌≡◌, ◌+◌, ◌-◌, ◌<◌, ◌≤◌, length, take, nat_le};
 ghost use Rattle.std.specs.List.{insert, remove, position, prefix_len};
