@@ -4,7 +4,8 @@
     python3 tools/design_counts.py [POINT] [-v]      from the top of the repository
 
 POINT is 1 to 8, as docs/DESIGN-PASS.md numbers them; with none, all are counted.
--v prints each place. A line is a place to look at, not a fault.
+-v prints each place. A line is a place to look at, not a fault. An arm that reads a number into its enum, as a
+TryFrom has, is not counted as a match on a number.
 """
 import collections
 import glob
@@ -58,7 +59,6 @@ def point_1():
 
 def shape(body, full=False):
     words = re.findall(r"b?\"(?:[^\"\\]|\\.)*\"|b'.'|\w+(?:::\w+)*|\S", body)
-    seen = {}
     out = []
     keep = {"if", "else", "match", "for", "in", "while", "loop", "return", "let", "mut", "self", "Some", "None", "Ok", "Err", "as", "true", "false"}
     for w in words:
