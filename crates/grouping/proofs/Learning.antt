@@ -30,19 +30,19 @@ ranged_put r xs h i b p e = elim (cases_Bool (eqb b r.binary)) [
   | inr f ↦ let k = rw f at (process_put r xs b) in h b p (sym k ∙ e)
 ]
 
-pub next_ranged : {row : _} {eq : _} (t : Table KnownBinary ℕ row eq) (p : ℕ) → p ≡ 2 + length (listed t) → InRange p
+pub next_ranged : {row : _} (t : Table KnownBinary ℕ row) (p : ℕ) → p ≡ 2 + length (listed t) → InRange p
 next_ranged t p e = (omega arith, omega (arith, listed_fits t, room_most t))
 
 -- whichever way an insertion went
-pub ranged_after : (r : Result (Unit {0}) Refusal) {keys : _} {same : _} (row : KnownBinary) (was is : Table KnownBinary ℕ keys same) → MatchResult r (λ _. listed is ≡ entered eqb binary_key unranked row (listed was)) (λ e. (e ≡ NoPlace) × (is ≡ was)) → Ranged (listed was) → InRange row.process → Ranged (listed is)
-ranged_after (Ok x) {keys} {same} row was is h ranged i = let P : List KnownBinary → Type 0 = λ l. Ranged l in subst P (sym h) (ranged_put row (listed was) ranged i)
-ranged_after (Err e) {keys} {same} row was is h ranged i = let P : Table KnownBinary ℕ keys same → Type 0 = λ t. Ranged (listed t) in subst P (sym h.1) ranged
+pub ranged_after : (r : Result (Unit {0}) Refusal) {keys : _} (row : KnownBinary) (was is : Table KnownBinary ℕ keys) → MatchResult r (λ _. listed is ≡ entered eqb binary_key unranked row (listed was)) (λ e. (e ≡ NoPlace) × (is ≡ was)) → Ranged (listed was) → InRange row.process → Ranged (listed is)
+ranged_after (Ok x) {keys} row was is h ranged i = let P : List KnownBinary → Type 0 = λ l. Ranged l in subst P (sym h) (ranged_put row (listed was) ranged i)
+ranged_after (Err e) {keys} row was is h ranged i = let P : Table KnownBinary ℕ keys → Type 0 = λ t. Ranged (listed t) in subst P (sym h.1) ranged
 
 no_row : (xs : List KnownBinary) → first_process xs ≡ None → xs ≡ []
 no_row [] e = refl
 no_row (r ∷ rs) e = cc
 
-module _ {row : _} {eq : _} (t : Table KnownBinary ℕ row eq) (b : ℕ) (none : process_in (listed t) b ≡ None) where
+module _ {row : _} (t : Table KnownBinary ℕ row) (b : ℕ) (none : process_in (listed t) b ≡ None) where
   free_is : takes (of eqb binary_key b) t ≡ ltb (length (listed t)) (room t)
   free_is = ap (λ h. h || ltb (length (listed t)) (room t)) (cnt_hasnt (of eqb binary_key b) (listed t) (unpicked (of eqb binary_key b) (listed t) (no_row _ none)))
 

@@ -1,4 +1,7 @@
+ghost use Rattle.std.specs.Prelude.{nat_eq};
+ghost use Rattle.std.specs.Cmp.{nat_eq_equiv};
 ghost use Rattle.rows.specs.Keys.{process_key, unranked};
+ghost use Rattle.rows.specs.Alike.{turned, chained};
 
 use table::Row;
 
@@ -13,10 +16,22 @@ impl Row for NamedProcess {
 
     ghost key_of = { process_key };
 
+    ghost same = { nat_eq };
+
     ghost rank_of = { unranked };
+
+    ghost reflexive = { nat_eq_equiv.refl };
+
+    ghost symmetric = { turned nat_eq_equiv };
+
+    ghost transitive = { chained nat_eq_equiv };
 
     fn key(&self) -> u32 {
         self.process
+    }
+
+    fn has_key(&self, key: &u32) -> bool {
+        *key == self.key()
     }
 
     fn rank(&self) -> u32 {

@@ -3,7 +3,7 @@
 use Rattle.std.proofs.Common.{◌≡◌, ℕ, ◌+◌, Bool, true, false, List, [], length, sym, ◌∙◌, inl, inr, arith}
 use mathlib.Core.HLevel.{Π_prop}
 use native.Mathlib.Bridge.{le_prop}
-use Rattle.std.specs.Cmp.{IsEquivalence}
+use Rattle.std.specs.Cmp.{IsEquivalence, both_ways, equiv}
 use Rattle.std.proofs.lemmas.Bool.{cases_Bool}
 use Rattle.table.specs.Count.{cnt, cut, pick}
 use Rattle.table.specs.Keyed.{of, Single, entered}
@@ -14,6 +14,10 @@ use Rattle.table.proofs.Orders.{ordered_none, ordered_put, ordered_cut, ordered_
 -- a fact, so that two structs that hold the same tables are the same
 pub single_prop : {K R : Type 0} (same : K → K → Bool) (key : R → K) (xs : List R) → IsProp (Single same key xs)
 single_prop same key xs = Π_prop (λ _. le_prop)
+
+-- the three laws of a kind of row, as the library has them
+pub equivalence : {K : Type 0} (same : K → K → Bool) → ((k : K) → same k k ≡ true) → ((k l : K) → same k l ≡ true → same l k ≡ true) → ((k l m : K) → same k l ≡ true → same l m ≡ true → same k m ≡ true) → IsEquivalence same
+equivalence same reflexive symmetric transitive = equiv (record { symm = λ k l. both_ways (same k l) (same l k) (symmetric k l) (symmetric l k); trans = transitive }) reflexive
 
 module _ {K R : Type 0} (same : K → K → Bool) (key : R → K) (rank : R → ℕ) (equal : IsEquivalence same) where
   -- what has a key has each key that is the same, and no other

@@ -10,7 +10,7 @@ use super::Row;
 
 // The first place where the key stands.
 pub fn place_of<R: Row>(rows: &[R], key: R::Key) -> Option<usize>
-    ensures { result ≡ position (of R.Key.eq R.key_of key) rows.now }
+    ensures { result ≡ position (of R.same R.key_of key) rows.now }
 {
     rows.iter().position(|r| r.has_key(&key))
 }

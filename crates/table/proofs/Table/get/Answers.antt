@@ -10,6 +10,6 @@ pub returns : goal.returns
 unfolding listed
 returns g c =
     let t = c.args.self.now in
-    let p = of g.R.Key.PartialEq.eq g.R.Row.key_of c.args.key in
+    let p = of g.R.Row.same g.R.Row.key_of c.args.key in
     let found = find_from_yields_List p _ _ c.find.result c.find.ensures.ran (YieldsList-from_slice (listed t) (cc)) (λ x b q k. search (rules, tests)) in
     ap lone (c.copied.ensures ∙ found) ∙ pick_find p (listed t) (t.single c.args.key)

@@ -5,5 +5,5 @@ use Rattle.table.proofs.Table.needs_place.Goals as goal
 
 pub returns : goal.returns
 returns g c =
-    let h = lone_has (of g.R.Key.PartialEq.eq g.R.Row.key_of c.args.key) _ _ c.get.ensures in
+    let h = lone_has (of g.R.Row.same g.R.Row.key_of c.args.key) _ _ c.get.ensures in
     search rules

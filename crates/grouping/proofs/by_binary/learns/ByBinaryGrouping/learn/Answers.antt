@@ -1,4 +1,4 @@
-use Rattle.std.proofs.Common.{◌≡◌, length, None, sym, ap, ◌∙◌}
+use Rattle.std.proofs.Common.{◌≡◌, length, None, sym, ap, ◌∙◌, arith}
 use Rattle.std.specs.Option.{option_or}
 use Rattle.std.proofs.lemmas.Result.{err_from_is_err_and}
 use Rattle.table.specs.Held.{listed, room}
@@ -9,7 +9,7 @@ use Rattle.grouping.proofs.by_binary.learns.ByBinaryGrouping.learn.Goals as goal
 pub invariant_of-self : goal.invariant_of-self
 invariant_of-self c =
     let was = c.args.self.now.known in
-    record { ranged = ranged_after c.insert.result _ was c.insert.new.self c.insert.ensures.after c.args.self.now.ranged (next_ranged was _ c.next-process.ensures) }
+    record { ranged = ranged_after c.insert.result _ was c.insert.new.self c.insert.ensures.after c.args.self.now.ranged (next_ranged was _ (omega arith)) }
 
 pub returns-in_err-insert-clause-answer : goal.returns-in_err-insert-clause-answer
 returns-in_err-insert-clause-answer c =
@@ -25,7 +25,7 @@ returns-clause-answer c =
     let g = c.args.self.now in
     let b = c.args.binary in
     let no : process_in (listed g.known) b ≡ None = sym c.in_default.ensures in
-    ap (λ o. option_or o (offer_in (length (listed g.known)) (room g.known))) no ∙ offers g.known b no _ c.next-process.ensures c.in_ok-insert.ensures.decides
+    ap (λ o. option_or o (offer_in (length (listed g.known)) (room g.known))) no ∙ offers g.known b no _ (omega arith) c.in_ok-insert.ensures.decides
 
 pub returns-clause-after : goal.returns-clause-after
 returns-clause-after c = λ k. ap (λ l. process_in l k) c.in_ok-insert.ensures.after ∙ process_put _ (listed c.args.self.now.known) k
