@@ -12,8 +12,15 @@ use std::fs;
 use trace::{ARGUMENTS, TraceEvent};
 use trace_json::write_json;
 
-// What the output is filled with, before the writer gets it.
+// How many cases are read of a list.
+const MOST: u64 = 1_000_000;
+
+// How long the output is, and what it is filled with before the writer gets it.
+const LENGTH: usize = 16384;
+
 const FILLED: u8 = 170;
+
+static UNTOUCHED: [u8; LENGTH] = [FILLED; LENGTH];
 
 // The bytes of a list of cases that are still to be read.
 #[derive(Drop)]
@@ -56,9 +63,16 @@ impl<'a> Cursor<'a> {
     {
         let mut arguments = [0; ARGUMENTS];
         for n in &mut arguments {
-            *n = self.number()?;
+            *n = self.number_or_0()?;
         }
         Some(arguments)
+    }
+
+    // A number of an event: a column that is no number counts as 0, as in a trace sheet.
+    fn number_or_0<N: Number + Default>(&mut self) -> Option<N>
+        ensures { OnSome result (length self.new.left.now + 20 ≡ length self.old.left.now) }
+    {
+        Some(read(self.part(20)?).unwrap_or_default())
     }
 
     // An event, and the line feed behind it: a line of a trace sheet, which the crate sinks reads for itself alone.
@@ -67,15 +81,15 @@ impl<'a> Cursor<'a> {
     {
         let e = TraceEvent {
             phase: self.byte()?,
-            category: self.number()?,
-            label: self.number()?,
-            first: self.number()?,
-            second: self.number()?,
-            time: self.number()?,
-            process: self.number()?,
-            lane: self.number()?,
-            arrow: self.number()?,
-            kind: self.number()?,
+            category: self.number_or_0()?,
+            label: self.number_or_0()?,
+            first: self.number_or_0()?,
+            second: self.number_or_0()?,
+            time: self.number_or_0()?,
+            process: self.number_or_0()?,
+            lane: self.number_or_0()?,
+            arrow: self.number_or_0()?,
+            kind: self.number_or_0()?,
             arguments: self.arguments()?,
         };
         self.byte()?;
@@ -113,9 +127,10 @@ fn book_number(n: u64) -> Option<u32> {
     Some(u32::from(number))
 }
 
-// Whether every byte is the one that the output was filled with.
+// Whether every byte is the one that the output was filled with: compared as a whole, since byte by byte took most of the
+// program's time.
 fn untouched(bytes: &[u8]) -> bool {
-    bytes.iter().all(|b| *b == FILLED)
+    UNTOUCHED.get(..bytes.len()) == Some(bytes)
 }
 
 // What stands in front of a case.
@@ -181,7 +196,7 @@ fn rest_holds(
     enter_texts(cursor, book, h.texts.checked_sub(1)?)?;
     append_lines(cursor, &mut sink, h.events)?;
     let wanted = cursor.part(h.length)?;
-    let mut out = [FILLED; 16384];
+    let mut out = [FILLED; LENGTH];
     Some(written_well(&mut out, finished, &sink, book, h, wanted))
 }
 
@@ -211,7 +226,7 @@ fn run(rt: &HostRuntime) -> anyhow::Result<()> {
     };
     let mut cases = 0u64;
     let mut differ = 0u64;
-    while !cursor.left.is_empty() {
+    while !cursor.left.is_empty() && cases < MOST {
         cases = cases.saturating_add(1);
         let holds = case_holds(&mut cursor).context("the list of cases is damaged")?;
         if !holds {

@@ -8,6 +8,9 @@ use anyhow::Context;
 use columns::read;
 use std::fs;
 
+// How many cases are read of a list.
+const MOST: u64 = 1_000_000;
+
 // What is wanted of a sheet, or what came of it.
 #[derive(Clone, Copy, PartialEq, Eq)]
 enum Answer {
@@ -81,7 +84,7 @@ fn run(rt: &HostRuntime) -> anyhow::Result<()> {
     let mut left = data.as_slice();
     let mut cases = 0u64;
     let mut differ = 0u64;
-    while !left.is_empty() {
+    while !left.is_empty() && cases < MOST {
         let case = case_at(left).context("the list of cases is damaged")?;
         let got = read_whole(case.sheet);
         cases = cases.saturating_add(1);

@@ -46,7 +46,8 @@ fn print_fault(rt: &HostRuntime, found: &SheetFault) -> anyhow::Result<()> {
     let SheetFault { line, fault } = found;
     let column = fault.column();
     let number = fault.refusal().number();
-    println!(rt; "Line {line}, column {column}, refusal {number}: {fault}.")?;
+    let words = fault.sentence();
+    println!(rt; "Line {line}, column {column}, refusal {number}: {words}.")?;
     Ok(())
 }
 

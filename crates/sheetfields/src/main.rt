@@ -136,12 +136,15 @@ fn is_wanted(event: Event, line: i64) -> bool {
         && (is_run_event(event.kind) || is_test_event(event.kind) || is_end_event(event.kind))
 }
 
-// How many lines from the first say what is wanted.
+// How many lines are counted.
+const MOST: i64 = 1000;
+
+// How many lines from the first say what is wanted, up to 1,000.
 fn wanted_lines(sheet: &[u8]) -> i64 {
     let mut reader = SheetReader::new(sheet);
     let mut lines = 0i64;
     while let Ok(Some(event)) = reader.next() {
-        if !is_wanted(event, lines) {
+        if lines == MOST || !is_wanted(event, lines) {
             break;
         }
         lines = lines.saturating_add(1);
