@@ -39,10 +39,18 @@ mod tests {
     use super::*;
     use names::{Entry, Shown};
 
+    // Whether what was asked is refused because the book is full, which is refusal 11.
+    fn is_full<T: Drop>(answer: Result<T, Refusal>) -> bool {
+        match answer {
+            Ok(_) => false,
+            Err(refusal) => refusal.number() == 11,
+        }
+    }
+
     fn takes_nothing(book: &mut NameBook) -> bool {
-        book.enter(b"a") == Err(Refusal::BookFull)
-            && book.enter(b"") == Err(Refusal::BookFull)
-            && book.plan(b"a", b"a") == Err(Refusal::BookFull)
+        is_full(book.enter(b"a"))
+            && is_full(book.enter(b""))
+            && is_full(book.plan(b"a", b"a"))
             && book.find(b"a").is_none()
             && holds(book, 0, 0, 8)
     }
@@ -55,7 +63,7 @@ mod tests {
     }
 
     fn takes_empty(book: &mut NameBook) -> bool {
-        book.enter(b"a") == Err(Refusal::BookFull)
+        is_full(book.enter(b"a"))
             && book.enter(b"") == Ok(1)
             && book.enter(b"") == Ok(1)
             && stands(book, b"", 1)
@@ -71,12 +79,12 @@ mod tests {
 
     fn takes_one(book: &mut NameBook) -> bool {
         book.enter(b"run") == Ok(1)
-            && book.enter(b"b") == Err(Refusal::BookFull)
+            && is_full(book.enter(b"b"))
             && book.enter(b"run") == Ok(1)
             && stands(book, b"run", 1)
             && holds(book, 1, 0, 5)
             && book.plan(b"run", b"run") == Ok((1, 1))
-            && book.plan(b"run", b"b") == Err(Refusal::BookFull)
+            && is_full(book.plan(b"run", b"b"))
     }
 
     #[test]
@@ -89,11 +97,11 @@ mod tests {
     fn takes_three(book: &mut NameBook) -> bool {
         book.enter(b"ab") == Ok(1)
             && book.enter(b"abc") == Ok(2)
-            && book.enter(b"xyz") == Err(Refusal::BookFull)
+            && is_full(book.enter(b"xyz"))
             && holds(book, 2, 1, 2)
             && book.enter(b"bc") == Ok(3)
             && holds(book, 3, 0, 0)
-            && book.enter(b"") == Err(Refusal::BookFull)
+            && is_full(book.enter(b""))
             && book.enter(b"abc") == Ok(2)
             && stands(book, b"ab", 1)
             && stands(book, b"abc", 2)
@@ -125,7 +133,7 @@ mod tests {
     fn takes_long(book: &mut NameBook) -> bool {
         book.enter(&[7u8; 255]) == Ok(1)
             && book.enter(&[7u8; 256]) == Ok(2)
-            && book.enter(&[7u8; 301]) == Err(Refusal::BookFull)
+            && is_full(book.enter(&[7u8; 301]))
             && book.enter(&[7u8; 300]) == Ok(3)
             && stands(book, &[7u8; 255], 1)
             && stands(book, &[7u8; 300], 3)
@@ -142,15 +150,15 @@ mod tests {
     fn plans_two(book: &mut NameBook) -> bool {
         book.plan(b"ab", b"ab") == Ok((1, 1))
             && book.plan(b"ab", b"cd") == Ok((1, 2))
-            && book.plan(b"ab", b"cde") == Err(Refusal::BookFull)
-            && book.plan(b"abcde", b"a") == Err(Refusal::BookFull)
+            && is_full(book.plan(b"ab", b"cde"))
+            && is_full(book.plan(b"abcde", b"a"))
             && book.plan_one(b"abcd") == Ok(1)
-            && book.plan_one(b"abcde") == Err(Refusal::BookFull)
+            && is_full(book.plan_one(b"abcde"))
             && holds(book, 0, 2, 4)
             && book.enter(b"ab") == Ok(1)
             && book.plan(b"cd", b"ab") == Ok((2, 1))
             && book.plan(b"ab", b"cd") == Ok((1, 2))
-            && enter_both(book, b"cd", b"") == Err(Refusal::BookFull)
+            && is_full(enter_both(book, b"cd", b""))
             && holds(book, 1, 1, 2)
             && enter_both(book, b"cd", b"ab") == Ok((2, 1))
     }
@@ -187,10 +195,10 @@ mod tests {
 
     fn takes_most(book: &mut NameBook) -> bool {
         enter_many(book, 65535)
-            && book.enter(b"one more") == Err(Refusal::BookFull)
+            && is_full(book.enter(b"one more"))
             && holds(book, 65535, 1, 4)
             && stands(book, &[0u8; 4], 1)
-            && book.plan(&[0u8; 4], b"") == Err(Refusal::BookFull)
+            && is_full(book.plan(&[0u8; 4], b""))
     }
 
     #[test]
